@@ -1,0 +1,50 @@
+-- The laws of the card: which case an answer is, and what a room holds. Assumes nothing.
+use mathlib.Core.Path.{_≡_, refl, sym, ap, _∙_}
+use mathlib.Core.Bool.{Bool, true, false, cond, not, _&&_}
+use mathlib.Core.List.{List, [], _∷_, _++_}
+use Prim.Native.Nat.{ℕ, _+_, _≤_, _<_}
+use native.Mathlib.Nat.{zero-add}
+use native.Mathlib.Omega.{arith}
+use lib.Dec.{leb}
+use lib.ListN.{length, drop, length-append, length-drop}
+use lib.Seq.{sets, sets-eq}
+use borrow.Author.Tests.{leb-true, le-leb}
+use Rattle.ranges.proofs.Bools.{and-left, and-right}
+use Rattle.card.specs.Card.{Answer, Answer.accepted, Answer.refused, refusing, linesOk, after, laid}
+
+pub lines-are : (n : ℕ) → linesOk n ≡ true → (1 ≤ n) × (n ≤ 6)
+unfolding linesOk
+lines-are n e = (leb-true 1 n (and-left (leb 1 n) _ e), leb-true n 6 (and-right (leb 1 n) _ e))
+
+pub lines-good : (n : ℕ) → 1 ≤ n → n ≤ 6 → linesOk n ≡ true
+unfolding linesOk
+lines-good n a b = rw (le-leb 1 n a, le-leb n 6 b)
+
+-- a refusal is given, or passed over
+pub refusing-yes : (bad : Bool) (k p : ℕ) (x : Answer) → bad ≡ true → refusing bad k p x ≡ refused k p
+unfolding refusing
+refusing-yes bad k p x e = rw e
+
+pub refusing-no : (bad : Bool) (k p : ℕ) (x : Answer) → bad ≡ false → refusing bad k p x ≡ x
+unfolding refusing
+refusing-no bad k p x e = rw e
+
+-- a buffer afterwards
+pub after-accepted : (a : Answer) (vs : List ℕ) (new old : List ℕ) → a ≡ accepted vs → after a new old ≡ new
+unfolding after
+after-accepted a vs new old e = rw e
+
+pub after-refused : (a : Answer) (k p : ℕ) (new old : List ℕ) → a ≡ refused k p → after a new old ≡ old
+unfolding after
+after-refused a k p new old e = rw e
+
+-- stores from the start of a room on
+pub sets-laid : (xs room : List ℕ) → length xs ≤ length room → sets room 0 xs ≡ laid xs room
+unfolding laid
+sets-laid xs room le =
+    let s : sets room 0 xs ≡ xs ++ drop (0 + length xs) room = sets-eq xs room 0 (omega arith) in
+    rw (zero-add (length xs)) at s
+
+pub length-laid : (xs room : List ℕ) → length xs ≤ length room → length (laid xs room) ≡ length room
+unfolding laid
+length-laid xs room le = rw (length-append, length-drop) (omega arith)

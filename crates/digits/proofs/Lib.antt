@@ -1,0 +1,3 @@
+pub mod Digits
+pub mod Packs
+pub mod Three

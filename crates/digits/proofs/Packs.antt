@@ -1,0 +1,45 @@
+-- The laws of `pack`: its digits are those packed, it has no others, and the digits of a number packed again give the number.
+-- They rest on `pack-front`, the lowest digit taken off. Assumes nothing.
+use mathlib.Core.Path.{_≡_, refl, sym, ap, _∙_}
+use Prim.Native.Nat.{ℕ, zero, suc, _+_, _*_, _^_, _<_}
+use native.Mathlib.Nat.{zero-add, add-zero, pow-zero, pow-succ', mul-add, mul-zero, mul-one, mul-left-comm}
+use native.Mathlib.Omega.{arith}
+use Rattle.ranges.specs.Ranges.{sum}
+use Rattle.ranges.proofs.Sums.{sum-snoc, sum-ext}
+use Rattle.digits.specs.Digits.{digit, pack}
+use Rattle.digits.proofs.Digits.{low-div, low-mod, low-lt, digit-zero, digit-suc, digit-lt, digits-equal}
+
+pub pack-zero : (r : ℕ) (f : ℕ → ℕ) → pack r f 0 ≡ 0
+unfolding pack sum
+pack-zero r f = refl
+
+-- one digit more at the top
+pub pack-suc : (r : ℕ) (f : ℕ → ℕ) (m : ℕ) → pack r f (suc m) ≡ pack r f m + f m * r ^ m
+unfolding pack
+pack-suc r f m = rw (zero-add m) at (sum-snoc (λ k. f k * r ^ k) 0 m)
+
+pub pack-front : (r : ℕ) (f : ℕ → ℕ) (m : ℕ) → pack r f (suc m) ≡ f 0 + r * pack r (λ k. f (suc k)) m
+pack-front r f zero = rw (pack-suc, pack-zero, pack-zero, pow-zero, mul-one, mul-zero) (omega arith)
+pack-front r f (suc m) =
+    rw (pack-suc r f (suc m), pack-front r f m, pack-suc r (λ k. f (suc k)) m, pow-succ', mul-left-comm (f (suc m)) r (r ^ m), mul-add) (omega arith)
+
+pub pack-ext : (r : ℕ) (f g : ℕ → ℕ) (m : ℕ) → ((k : ℕ) → k < m → f k ≡ g k) → pack r f m ≡ pack r g m
+unfolding pack
+pack-ext r f g m h = sum-ext (λ k. f k * r ^ k) (λ k. g k * r ^ k) 0 m (λ k le lt. ap (λ (x : ℕ). x * r ^ k) (h k (omega arith)))
+
+pub pack-lt : (r : ℕ) (f : ℕ → ℕ) (m : ℕ) → ((k : ℕ) → k < m → f k < r) → pack r f m < r ^ m
+pack-lt r f zero h = rw (pack-zero, pow-zero) (omega arith)
+pack-lt r f (suc m) h =
+    rw (pack-front, pow-succ') (low-lt (h 0 (omega arith)) (pack-lt r (λ k. f (suc k)) m (λ k lt. h (suc k) (omega arith))))
+
+pub digit-pack : (r : ℕ) (f : ℕ → ℕ) (m : ℕ) → ((k : ℕ) → k < m → f k < r) → (k : ℕ) → k < m → digit r k (pack r f m) ≡ f k
+digit-pack r f zero h k lt = absurd (omega arith)
+digit-pack r f (suc m) h zero lt = rw (pack-front, digit-zero, low-mod _ (h 0 lt))
+digit-pack r f (suc m) h (suc k) lt =
+    rw (pack-front, digit-suc, low-div _ (h 0 (omega arith))) (digit-pack r (λ j. f (suc j)) m (λ j l. h (suc j) (omega arith)) k (omega arith))
+
+-- a number of m digits is its digits packed
+pub pack-digits : (r m p : ℕ) → 0 < r → p < r ^ m → pack r (λ k. digit r k p) m ≡ p
+pack-digits r m p pos lt =
+    let small : (k : ℕ) → k < m → digit r k p < r = λ k l. digit-lt r k p pos in
+    digits-equal r m (pack r (λ k. digit r k p) m) p pos (pack-lt r (λ k. digit r k p) m small) lt (λ k l. digit-pack r (λ k. digit r k p) m small k l)

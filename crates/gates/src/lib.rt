@@ -1,0 +1,141 @@
+// Gates: what an operator does, when a gate fires, what it does to a pattern, its inverse, and its record of 8 bytes.
+ghost use mathlib.Core.Path.{_≡_};
+ghost use Prim.Native.Nat.{_+_, _≤_, _<_};
+ghost use lib.ListN.{length};
+ghost use lib.Seq.{sets};
+ghost use Rattle.gates.specs.Gates.{act, inverseOp, applied};
+ghost use Rattle.gates.specs.Records.{decoded, recordOf};
+
+mod controls;
+
+use controls::Lines;
+
+// A gate: the controls of x0 to x5 are packed in base 4, 3 for none.
+pub struct Gate {
+    pub operator: u8,
+    pub target: u8,
+    pub controls: u16,
+}
+
+// A decoded record: a gate, or a refusal.
+pub enum Record {
+    Gate {
+        operator: u8,
+        target: u8,
+        controls: u16,
+    },
+    Refused {
+        number: u8,
+        place: usize,
+    },
+}
+
+// The operator's value at a digit.
+fn act_on(operator: u8, x: u16) -> u16
+    requires { ⌜ x < 3 ⌝ }
+    ensures { λ r. ⌜ r ≡ act operator x ⌝ }
+{
+    let o = operator as u16;
+    if o < 3 {
+        (x + o) % 3
+    } else {
+        (2 * x + o + 2) % 3
+    }
+}
+
+// The operator that takes an operator back.
+pub fn invert_op(operator: u8) -> u8
+    ensures { λ r. ⌜ r ≡ inverseOp operator ⌝ }
+{
+    if operator < 3 { 3 - operator } else { operator }
+}
+
+// The pattern after the gate.
+pub fn apply(g: Gate, p: u16) -> u16
+    requires { ⌜ (g .target < 6) × (p < 729) ⌝ }
+    ensures { λ r. ⌜ r ≡ applied g p ⌝ }
+{
+    if controls::fires_on(g.controls, p) {
+        let t = g.target as usize;
+        let x = digits::digit_of(p, t);
+        digits::with_digit(p, t, act_on(g.operator, x))
+    } else {
+        p
+    }
+}
+
+// The record at a place: a gate on so many lines, or a refusal.
+pub fn decode(lines: u8, bytes: &[u8], at: usize) -> Record
+    ensures { λ r. ⌜ r ≡ decoded lines (now (bytes .entry)) at ⌝ }
+{
+    if !card::lines_ok(lines) {
+        return Record::Refused {
+            number: 1,
+            place: 0,
+        };
+    }
+    if bytes.len() < 8 {
+        return Record::Refused {
+            number: 7,
+            place: at,
+        };
+    }
+    if bytes.len() - 8 < at {
+        return Record::Refused {
+            number: 7,
+            place: at,
+        };
+    }
+    let operator = bytes[at];
+    if operator < 1 {
+        return Record::Refused {
+            number: 7,
+            place: at,
+        };
+    }
+    if 5 < operator {
+        return Record::Refused {
+            number: 7,
+            place: at,
+        };
+    }
+    let target = bytes[at + 1];
+    if lines <= target {
+        return Record::Refused {
+            number: 7,
+            place: at,
+        };
+    }
+    let Lines::Packed(controls) = controls::control_lines(
+        lines as usize,
+        target as usize,
+        bytes,
+        at,
+    ) else {
+        return Record::Refused {
+            number: 7,
+            place: at,
+        };
+    };
+    Record::Gate {
+        operator,
+        target,
+        controls,
+    }
+}
+
+// The gate's record, stored at a place.
+pub fn encode(g: Gate, out: &mut [u8], at: usize)
+    requires { ⌜ at + 8 ≤ length (now out) ⌝ }
+    ensures { λ _. ⌜ now (out .exit) ≡ sets (now (out .entry)) at (recordOf g) ⌝ }
+{
+    let c = g.controls;
+    out[at] = g.operator;
+    out[at + 1] = g.target;
+    out[at + 2] = (c % 4) as u8;
+    out[at + 3] = (c / 4 % 4) as u8;
+    out[at + 4] = (c / 16 % 4) as u8;
+    out[at + 5] = (c / 64 % 4) as u8;
+    out[at + 6] = (c / 256 % 4) as u8;
+    out[at + 7] = (c / 1024 % 4) as u8;
+}

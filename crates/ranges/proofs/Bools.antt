@@ -1,0 +1,25 @@
+-- What a Boolean that is a conjunction, a choice or a negation says. Assumes nothing.
+use mathlib.Core.Path.{_≡_, refl, ap₂}
+use mathlib.Core.Logic.{_⊎_}
+use mathlib.Core.Bool.{Bool, true, false, cond, not, _&&_, _||_, true≢false, false≢true}
+
+pub and-left : (a b : Bool) → (a && b) ≡ true → a ≡ true
+and-left true b e = refl
+and-left false b e = e
+
+pub and-right : (a b : Bool) → (a && b) ≡ true → b ≡ true
+and-right true b e = e
+and-right false b e = absurd (false≢true e)
+
+pub and-both : (a b : Bool) → a ≡ true → b ≡ true → (a && b) ≡ true
+and-both a b p q = ap₂ (λ (x y : Bool). x && y) p q
+
+-- a test is true or false, with the equation
+pub decide : (b : Bool) → (b ≡ true) ⊎ (b ≡ false)
+decide true = _⊎_.inl refl
+decide false = _⊎_.inr refl
+
+-- a test is not both
+pub clash : {A : Type 0} (b : Bool) → b ≡ true → b ≡ false → A
+clash true p q = absurd (true≢false q)
+clash false p q = absurd (false≢true p)

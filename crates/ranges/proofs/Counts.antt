@@ -1,0 +1,17 @@
+-- A loop that counts k up to m has m - k numbers left.
+-- Assumes nothing.
+use mathlib.Core.Path.{_≡_}
+use mathlib.Core.Logic.{_⊎_}
+use Prim.Native.Nat.{ℕ, suc, _+_, _-_, _≤_, _<_}
+use native.Mathlib.Nat.{eq-or-lt-of-le}
+use native.Mathlib.Omega.{arith}
+
+pub left-suc : (m k : ℕ) → k < m → m - k ≡ suc (m - (k + 1))
+left-suc m k lt = omega arith
+
+pub left-zero : (m k : ℕ) → m ≤ k → m - k ≡ 0
+left-zero m k le = omega arith
+
+-- a number from i on is i, or one from i + 1 on
+pub here-or-later : {i k : ℕ} → i ≤ k → (i ≡ k) ⊎ (i < k)
+here-or-later le = eq-or-lt-of-le le
