@@ -10,7 +10,7 @@ use lib.ListN.{length, drop, length-append, length-drop}
 use lib.Seq.{sets, sets-eq}
 use borrow.Author.Tests.{leb-true, le-leb}
 use Rattle.ranges.proofs.Bools.{and-left, and-right}
-use Rattle.card.specs.Card.{Answer, Answer.accepted, Answer.refused, refusing, linesOk, after, laid}
+use Rattle.card.specs.Card.{Answer, Answer.accepted, Answer.refused, refusing, linesOk, onLines, after, laid}
 
 pub lines-are : (n : ℕ) → linesOk n ≡ true → (1 ≤ n) × (n ≤ 6)
 unfolding linesOk
@@ -29,14 +29,22 @@ pub refusing-no : (bad : Bool) (k p : ℕ) (x : Answer) → bad ≡ false → re
 unfolding refusing
 refusing-no bad k p x e = rw e
 
--- a buffer afterwards
-pub after-accepted : (a : Answer) (vs : List ℕ) (new old : List ℕ) → a ≡ accepted vs → after a new old ≡ new
-unfolding after
-after-accepted a vs new old e = rw e
+pub no-lines : (n : ℕ) (x : Answer) → linesOk n ≡ false → onLines n x ≡ refused 1 0
+unfolding onLines
+no-lines n x e = refusing-yes (not (linesOk n)) 1 0 x (rw e)
 
-pub after-refused : (a : Answer) (k p : ℕ) (new old : List ℕ) → a ≡ refused k p → after a new old ≡ old
+pub good-lines : (n : ℕ) (x : Answer) → linesOk n ≡ true → onLines n x ≡ x
+unfolding onLines
+good-lines n x e = refusing-no (not (linesOk n)) 1 0 x (rw e)
+
+-- a call's two promises at once: the answer, and what the lent buffer holds
+pub refused-both : (a : Answer) (k p : ℕ) (new old : List ℕ) → a ≡ refused k p → (refused k p ≡ a) × (old ≡ after a new old)
 unfolding after
-after-refused a k p new old e = rw e
+refused-both a k p new old e = (sym e, rw e)
+
+pub accepted-both : (a : Answer) (vs new old now : List ℕ) → a ≡ accepted vs → now ≡ new → (accepted vs ≡ a) × (now ≡ after a new old)
+unfolding after
+accepted-both a vs new old now e f = (sym e, rw e f)
 
 -- stores from the start of a room on
 pub sets-laid : (xs room : List ℕ) → length xs ≤ length room → sets room 0 xs ≡ laid xs room

@@ -1,6 +1,6 @@
 -- The refusal card: what a call answers, and what it leaves in a buffer that was lent to it.
 use Prim.Native.Nat.{ℕ}
-use mathlib.Core.Bool.{Bool, cond, _&&_}
+use mathlib.Core.Bool.{Bool, cond, not, _&&_}
 use mathlib.Core.List.{List, [], _++_}
 use lib.Dec.{leb}
 use lib.ListN.{length, drop}
@@ -27,9 +27,13 @@ values (refused k p) = []
 unfoldable pub refusing : Bool → ℕ → ℕ → Answer → Answer
 refusing bad k p x = cond bad (refused k p) x
 
--- lines are 1 to 6: otherwise refusal 1
+-- lines are 1 to 6
 unfoldable pub linesOk : ℕ → Bool
 linesOk n = leb 1 n && leb n 6
+
+-- refusal 1 of the lines, and else the answer x
+unfoldable pub onLines : ℕ → Answer → Answer
+onLines n x = refusing (not (linesOk n)) 1 0 x
 
 -- what a lent buffer holds afterwards: the new content where the call accepts, and what it held where it refuses
 unfoldable pub after : Answer → List ℕ → List ℕ → List ℕ

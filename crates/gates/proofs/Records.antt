@@ -21,6 +21,7 @@ use Rattle.digits.specs.Digits.{digit, pack}
 use Rattle.digits.proofs.Digits.{digit-lt}
 use Rattle.digits.proofs.Packs.{pack-lt, pack-ext, pack-digits, digit-pack}
 use Rattle.card.specs.Card.{linesOk}
+use Rattle.card.proofs.Cards.{lines-are}
 use Rattle.gates.specs.declared.Gate.{Gate}
 use Rattle.gates.specs.declared.Record.{Record}
 use Rattle.gates.specs.declared.controls.Lines.{Lines}
@@ -271,6 +272,9 @@ module _ (n : ℕ) (b : List ℕ) (at : ℕ) where
           record { lines = p; is = q; value = v ∙ (λ i. record { operator = eo i; target = et i; controls = ec i }) }
       go true false g p q v e = let z : _≡_ {A = ℕ} 0 1 = cc in absurd (omega arith)
       go false y g p q v e = let z : _≡_ {A = ℕ} 0 1 = cc in absurd (omega arith)
+
+  pub gives-gate : (g : Gate) → Gives g → IsGate n g
+  gives-gate g d = subst (λ (x : Gate). IsGate n x) (d .value) (gate-at n b at (lines-are n (d .lines) .1) (d .is))
 
   pub gives-no : (k q : ℕ) → linesOk n ≡ true → decoded n b at ≡ Record.Refused k q → isRecord n b at ≡ false
   unfolding decoded

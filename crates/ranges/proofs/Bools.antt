@@ -14,6 +14,15 @@ and-right false b e = absurd (false≢true e)
 pub and-both : (a b : Bool) → a ≡ true → b ≡ true → (a && b) ≡ true
 and-both a b p q = ap₂ (λ (x y : Bool). x && y) p q
 
+-- neither of the two holds
+pub or-left : (a b : Bool) → (a || b) ≡ false → a ≡ false
+or-left true b e = e
+or-left false b e = refl
+
+pub or-right : (a b : Bool) → (a || b) ≡ false → b ≡ false
+or-right true b e = absurd (true≢false e)
+or-right false b e = e
+
 -- a test is true or false, with the equation
 pub decide : (b : Bool) → (b ≡ true) ⊎ (b ≡ false)
 decide true = _⊎_.inl refl

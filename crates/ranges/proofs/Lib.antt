@@ -6,3 +6,4 @@ pub mod Searches
 pub mod Spans
 pub mod Lists
 pub mod Stores
+pub mod Fills

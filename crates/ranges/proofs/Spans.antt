@@ -1,6 +1,6 @@
 -- The laws of `span`. Assumes nothing.
 use mathlib.Core.Path.{_≡_, refl, sym, ap, ap₂, _∙_}
-use mathlib.Core.List.{List, [], _∷_, _++_, map}
+use mathlib.Core.List.{List, [], _∷_, _++_, map, reverse, reverse-append}
 use Prim.Native.Nat.{ℕ, zero, suc, _+_, _-_, _≤_, _<_}
 use native.Mathlib.Nat.{add-zero, zero-add}
 use native.Mathlib.Omega.{arith}
@@ -14,6 +14,14 @@ module _ {A : Type 0} where
   unfolding span
   length-span f i zero = refl
   length-span f i (suc m) = ap suc (length-span f (i + 1) m)
+
+  pub span-none : (f : ℕ → A) (i : ℕ) → span f i 0 ≡ []
+  unfolding span
+  span-none f i = refl
+
+  pub span-cons : (f : ℕ → A) (i m : ℕ) → span f i (suc m) ≡ f i ∷ span f (i + 1) m
+  unfolding span
+  span-cons f i m = refl
 
   -- element k
   pub span-at : (f : ℕ → A) (i m k : ℕ) (d : A) → k < m → getD (span f i m) k d ≡ f (i + k)
@@ -57,3 +65,21 @@ pub map-span : {A B : Type 0} (g : A → B) (f : ℕ → A) (i m : ℕ) → map 
 unfolding span
 map-span g f i zero = refl
 map-span {A} {B} g f i (suc m) = ap (λ (l : List B). g (f i) ∷ l) (map-span g f (i + 1) m)
+
+module _ {A : Type 0} where
+  -- counting from one later
+  pub span-later : (f : ℕ → A) (i m : ℕ) → span f (i + 1) m ≡ span (λ k. f (k + 1)) i m
+  unfolding span
+  span-later f i zero = refl
+  span-later f i (suc m) = ap (λ (l : List A). f (i + 1) ∷ l) (span-later f (i + 1) m)
+
+  -- reversed, it counts down
+  pub reverse-span : (f : ℕ → A) (m : ℕ) → reverse (span f 0 m) ≡ span (λ i. f (m - (i + 1))) 0 m
+  reverse-span f zero = unfold span in refl
+  reverse-span f (suc m) =
+      let s : span f 0 (suc m) ≡ span f 0 m ++ (f m ∷ []) = rw (zero-add m) at (span-snoc f 0 m) in
+      let r : reverse (span f 0 m ++ (f m ∷ [])) ≡ f m ∷ reverse (span f 0 m) = reverse-append (span f 0 m) (f m ∷ []) in
+      let t : span (λ i. f (suc m - (i + 1))) (0 + 1) m ≡ span (λ i. f (m - (i + 1))) 0 m =
+      span-later (λ i. f (suc m - (i + 1))) 0 m ∙ span-ext (λ k. f (suc m - (k + 1 + 1))) (λ k. f (m - (k + 1))) 0 m (λ k le lt. ap f (omega arith)) in
+      let h : suc m - (0 + 1) ≡ m = omega arith in
+      rw (s, r, reverse-span f m, span-cons (λ i. f (suc m - (i + 1))) 0 m, t, h)

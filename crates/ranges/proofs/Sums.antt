@@ -1,10 +1,11 @@
 -- The laws of `sum`. Assumes nothing.
 use mathlib.Core.Path.{_≡_, refl, sym, ap, ap₂, _∙_}
+use mathlib.Core.Logic.{_⊎_, ⊎-elim}
 use Prim.Native.Nat.{ℕ, zero, suc, _+_, _-_, _*_, _≤_, _<_}
 use native.Mathlib.Nat.{add-assoc, add-zero, suc-mul}
 use native.Mathlib.Omega.{arith}
 use Rattle.ranges.specs.Ranges.{sum}
-use Rattle.ranges.proofs.Counts.{left-suc, left-zero}
+use Rattle.ranges.proofs.Counts.{left-suc, left-zero, here-or-later}
 
 -- one number more at the end
 pub sum-snoc : (f : ℕ → ℕ) (i m : ℕ) → sum f i (suc m) ≡ sum f i m + f (i + m)
@@ -25,6 +26,14 @@ pub sum-le : (f : ℕ → ℕ) (c i m : ℕ) → ((k : ℕ) → f k ≤ c) → s
 unfolding sum
 sum-le f c i zero h = omega arith
 sum-le f c i (suc m) h = omega (arith, h i, sum-le f c (i + 1) m h, suc-mul m c)
+
+-- and to c less where it is 0 somewhere
+pub sum-le-but : (f : ℕ → ℕ) (c i m k : ℕ) → ((j : ℕ) → f j ≤ c) → i ≤ k → k < i + m → f k ≡ 0 → sum f i m + c ≤ m * c
+unfolding sum
+sum-le-but f c i zero k h le lt z = absurd (omega arith)
+sum-le-but f c i (suc m) k h le lt z =
+    ⊎-elim (λ (q : i ≡ k). omega (arith, ap f q, sum-le f c (i + 1) m h, suc-mul m c))
+    (λ (l : i < k). omega (arith, h i, sum-le-but f c (i + 1) m k h (omega arith) (omega arith) z, suc-mul m c)) (here-or-later le)
 
 -- one turn of a loop that adds up, and its end
 pub sum-more : (f : ℕ → ℕ) (m k acc : ℕ) → k < m → acc + f k + sum f (k + 1) (m - (k + 1)) ≡ acc + sum f k (m - k)

@@ -1,13 +1,13 @@
--- The laws of `every`: what it says of each number, and one turn of a loop that tests. Assumes nothing.
+-- The laws of `every` and `some`: what they say of each number, and one turn of a loop that tests. Assumes nothing.
 use mathlib.Core.Path.{_≡_, refl, sym, ap, ap₂, _∙_, subst}
 use mathlib.Core.Logic.{_⊎_, ⊎-elim}
-use mathlib.Core.Bool.{Bool, true, false, _&&_}
+use mathlib.Core.Bool.{Bool, true, false, _&&_, _||_}
 use Prim.Native.Nat.{ℕ, zero, suc, _+_, _-_, _≤_, _<_}
 use native.Mathlib.Nat.{zero-add}
 use native.Mathlib.Omega.{arith}
-use Rattle.ranges.specs.Ranges.{every}
+use Rattle.ranges.specs.Ranges.{every, some}
 use Rattle.ranges.proofs.Counts.{left-suc, left-zero, here-or-later}
-use Rattle.ranges.proofs.Bools.{and-left, and-right, and-both, decide, clash}
+use Rattle.ranges.proofs.Bools.{and-left, and-right, and-both, or-left, or-right, decide, clash}
 
 pub every-at : (f : ℕ → Bool) (i m : ℕ) → every f i m ≡ true → (k : ℕ) → i ≤ k → k < i + m → f k ≡ true
 unfolding every
@@ -51,3 +51,22 @@ every-stops f m k lt e = rw (left-suc m k lt, e)
 pub every-ends : (f : ℕ → Bool) (m k : ℕ) → m ≤ k → every f k (m - k) ≡ true
 unfolding every
 every-ends f m k le = rw (left-zero m k le)
+
+-- ---- some
+
+pub some-none : (f : ℕ → Bool) (i m : ℕ) → some f i m ≡ false → (k : ℕ) → i ≤ k → k < i + m → f k ≡ false
+unfolding some
+some-none f i zero e k le lt = absurd (omega arith)
+some-none f i (suc m) e k le lt =
+    ⊎-elim (λ (q : i ≡ k). rw (← q) (or-left (f i) _ e)) (λ (l : i < k). some-none f (i + 1) m (or-right (f i) _ e) k (omega arith) (omega arith))
+    (here-or-later le)
+
+pub some-hit : (f : ℕ → Bool) (i m k : ℕ) → i ≤ k → k < i + m → f k ≡ true → some f i m ≡ true
+some-hit f i m k le lt e =
+    ⊎-elim (λ (t : some f i m ≡ true). t) (λ (t : some f i m ≡ false). clash (f k) e (some-none f i m t k le lt)) (decide (some f i m))
+
+pub some-not : (f : ℕ → Bool) (i m : ℕ) → ((k : ℕ) → i ≤ k → k < i + m → f k ≡ false) → some f i m ≡ false
+unfolding some
+some-not f i zero h = refl
+some-not f i (suc m) h =
+    rw (h i (omega arith) (omega arith)) (some-not f (i + 1) m (λ k le lt. h k (omega arith) (omega arith)))

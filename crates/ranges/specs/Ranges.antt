@@ -1,12 +1,17 @@
 -- Tests, sums, searches and lists over the m numbers i, i + 1, .. , i + m - 1.
 use Prim.Native.Nat.{ℕ, zero, suc, _+_}
-use mathlib.Core.Bool.{Bool, true, cond, _&&_}
+use mathlib.Core.Bool.{Bool, true, false, cond, _&&_, _||_}
 use mathlib.Core.List.{List, [], _∷_}
 
 -- f holds of each of them
 unfoldable pub every : (ℕ → Bool) → ℕ → ℕ → Bool
 every f i zero = true
 every f i (suc m) = f i && every f (i + 1) m
+
+-- f holds of one of them
+unfoldable pub some : (ℕ → Bool) → ℕ → ℕ → Bool
+some f i zero = false
+some f i (suc m) = f i || some f (i + 1) m
 
 -- the sum of f over them
 unfoldable pub sum : (ℕ → ℕ) → ℕ → ℕ → ℕ

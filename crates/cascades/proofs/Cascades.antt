@@ -1,0 +1,84 @@
+-- What a list of gates computes: it stays within the patterns of its lines; and one turn of a loop that runs over the records. Assumes nothing.
+use mathlib.Core.Path.{_≡_, refl, sym, ap, _∙_}
+use mathlib.Core.Bool.{Bool, true, false, not}
+use mathlib.Core.List.{List, [], _∷_, _++_, map}
+use Prim.Native.Nat.{ℕ, zero, suc, _+_, _-_, _*_, _/_, _^_, _≤_, _<_}
+use native.Mathlib.Nat.{zero-add}
+use native.Mathlib.Omega.{arith}
+use lib.ListN.{length, getD}
+use Rattle.ranges.specs.Ranges.{span}
+use Rattle.ranges.specs.Lists.{Each, through}
+use Rattle.ranges.proofs.Lists.{through-nil, through-cons, through-append}
+use Rattle.ranges.proofs.Spans.{length-span, span-at, span-none, span-more, span-ends, span-snoc, span-ext, span-each, map-span}
+use Rattle.card.proofs.Cards.{lines-are}
+use Rattle.gates.specs.declared.Gate.{Gate}
+use Rattle.gates.specs.Gates.{applied, IsGate}
+use Rattle.gates.specs.Records.{isRecord, gateAt}
+use Rattle.gates.proofs.Gates.{applied-lt}
+use Rattle.gates.proofs.Records.{gate-at}
+use Rattle.cascades.specs.Cascades.{records, gatesOf, ran, tableOf, Whole, Cascade}
+
+-- gate i of a list of bytes
+abbrev pub gateOf : List ℕ → ℕ → Gate
+gateOf b i = gateAt b (8 * i)
+
+-- running one list after another
+pub run-append : (gs hs : List Gate) (p : ℕ) → ran (gs ++ hs) p ≡ ran hs (ran gs p)
+run-append gs hs p = through-append applied gs hs p
+
+pub run-lt : (n : ℕ) (gs : List Gate) (p : ℕ) → Each (IsGate n) gs → p < 3 ^ n → ran gs p < 3 ^ n
+run-lt n [] p each lt = rw (through-nil applied p) lt
+run-lt n (g ∷ gs) p each lt = rw (through-cons applied g gs p) (run-lt n gs (applied g p) (each .1) (applied-lt n g p (each .0 .on-line) lt))
+
+-- the records that checking lets through are a cascade
+pub gates-good : (n : ℕ) (b : List ℕ) (m : ℕ) → Whole n b m → Each (IsGate n) (gatesOf b)
+unfolding gatesOf
+gates-good n b m w =
+    span-each (IsGate n) (gateOf b) 0 (records b)
+    (λ i le lt. gate-at n b (8 * i) (lines-are n (w .lines) .1) (w .each i (omega (arith, w .size))))
+
+pub gates-count : (b : List ℕ) → length (gatesOf b) ≡ records b
+unfolding gatesOf
+gates-count b = length-span (gateOf b) 0 (records b)
+
+pub whole-cascade : (n : ℕ) (b : List ℕ) (m : ℕ) → Whole n b m → Cascade n (gatesOf b)
+whole-cascade n b m w = record { gates = gates-good n b m w; most = omega (arith, gates-count b, w .size, w .most) }
+
+-- ---- one turn of a loop over the records, and its end
+
+pub run-more : (b : List ℕ) (m i p : ℕ) → i < m → ran (span (gateOf b) (i + 1) (m - (i + 1))) (applied (gateOf b i) p) ≡ ran (span (gateOf b) i (m - i)) p
+run-more b m i p lt = sym (rw (span-more (gateOf b) m i lt) (through-cons applied (gateOf b i) (span (gateOf b) (i + 1) (m - (i + 1))) p))
+
+pub run-ends : (b : List ℕ) (m i p : ℕ) → m ≤ i → ran (span (gateOf b) i (m - i)) p ≡ p
+run-ends b m i p le = rw (span-ends (gateOf b) m i le) (through-nil applied p)
+
+-- the first i + 1 records, run
+pub run-snoc : (b : List ℕ) (i p : ℕ) → ran (span (gateOf b) 0 (i + 1)) p ≡ applied (gateOf b i) (ran (span (gateOf b) 0 i) p)
+run-snoc b i p =
+    let e : i + 1 ≡ suc i = omega arith in
+    let s : span (gateOf b) 0 (suc i) ≡ span (gateOf b) 0 i ++ (gateOf b i ∷ []) = rw (zero-add i) at (span-snoc (gateOf b) 0 i) in
+    rw (e, s, run-append (span (gateOf b) 0 i) (gateOf b i ∷ []) p)
+    (through-cons applied (gateOf b i) [] (ran (span (gateOf b) 0 i) p) ∙ through-nil applied (applied (gateOf b i) (ran (span (gateOf b) 0 i) p)))
+
+-- ---- a whole table: entry p after the first i records is what they make of p
+
+abbrev pub tableAfter : ℕ → List ℕ → ℕ → List ℕ
+tableAfter n b i = span (λ p. ran (span (gateOf b) 0 i) p) 0 (3 ^ n)
+
+pub table-start : (n : ℕ) (b : List ℕ) → span (λ p. p) 0 (3 ^ n) ≡ tableAfter n b 0
+table-start n b = span-ext (λ p. p) (λ p. ran (span (gateOf b) 0 0) p) 0 (3 ^ n) (λ p le lt. sym (rw (span-none (gateOf b) 0) (through-nil applied p)))
+
+pub table-next : (n : ℕ) (b : List ℕ) (i : ℕ) → map (applied (gateOf b i)) (tableAfter n b i) ≡ tableAfter n b (i + 1)
+table-next n b i =
+    map-span (applied (gateOf b i)) (λ p. ran (span (gateOf b) 0 i) p) 0 (3 ^ n)
+    ∙ span-ext (λ p. applied (gateOf b i) (ran (span (gateOf b) 0 i) p)) (λ p. ran (span (gateOf b) 0 (i + 1)) p) 0 (3 ^ n) (λ p le lt. sym (run-snoc b i p))
+
+pub table-end : (n : ℕ) (b : List ℕ) → tableAfter n b (records b) ≡ tableOf n (gatesOf b)
+unfolding tableOf gatesOf
+table-end n b = refl
+
+-- its entries are patterns
+pub table-lt : (n : ℕ) (b : List ℕ) (m i p : ℕ) → Whole n b m → i ≤ m → p < 3 ^ n → getD (tableAfter n b i) p 0 < 3 ^ n
+table-lt n b m i p w le lt =
+    let each = span-each (IsGate n) (gateOf b) 0 i (λ k le′ lt′. gate-at n b (8 * k) (lines-are n (w .lines) .1) (w .each k (omega (arith, le)))) in
+    rw (span-at (λ p. ran (span (gateOf b) 0 i) p) 0 (3 ^ n) p 0 lt, zero-add p) (run-lt n (span (gateOf b) 0 i) p each lt)

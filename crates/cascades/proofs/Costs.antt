@@ -1,0 +1,114 @@
+-- Prices: the base price by its cases, how large a price can be, the price of an appended list. `cost-fits` bounds the cost of any cascade.
+-- Assumes nothing.
+use mathlib.Core.Path.{_≡_, refl, sym, ap, _∙_}
+use mathlib.Core.Logic.{_⊎_, ⊎-elim}
+use mathlib.Core.Bool.{Bool, true, false, cond, _||_}
+use mathlib.Core.List.{List, [], _∷_, _++_}
+use Prim.Native.Nat.{ℕ, zero, suc, _+_, _-_, _*_, _≤_, _<_}
+use native.Mathlib.Nat.{add-assoc, add-zero}
+use native.Mathlib.Omega.{arith}
+use lib.Dec.{eqb}
+use lib.ListN.{length}
+use borrow.Author.Tests.{eq-eqb}
+use Rattle.ranges.proofs.Counts.{here-or-later}
+use Rattle.ranges.specs.Ranges.{sum, span}
+use Rattle.ranges.specs.Lists.{Each, total}
+use Rattle.ranges.proofs.Sums.{sum-le, sum-le-but, sum-ext}
+use Rattle.ranges.proofs.Spans.{span-more, span-ends}
+use Rattle.ranges.proofs.Lists.{each-imp, total-append, total-le}
+use Rattle.gates.specs.declared.Gate.{Gate}
+use Rattle.gates.specs.Gates.{control, IsGate}
+use Rattle.cascades.specs.Cascades.{Cascade}
+use Rattle.cascades.specs.Prices.{base, controlCount, others, gatePrice, cascadePrice}
+use Rattle.cascades.proofs.Cascades.{gateOf}
+
+pub base-small : (k : ℕ) → k < 2 → base k ≡ 1
+unfolding base
+base-small zero lt = refl
+base-small (suc zero) lt = refl
+base-small (suc (suc k)) lt = absurd (omega arith)
+
+pub base-two : (k : ℕ) → k ≡ 2 → base k ≡ 5
+unfolding base
+base-two k e = rw e
+
+pub base-more : (k : ℕ) → 2 < k → base k ≡ 2 * base (k - 1) + 5
+unfolding base
+base-more zero lt = absurd (omega arith)
+base-more (suc zero) lt = absurd (omega arith)
+base-more (suc (suc zero)) lt = absurd (omega arith)
+base-more (suc (suc (suc k))) lt =
+    let e : suc (suc (suc k)) - 1 ≡ suc (suc k) = omega arith in
+    rw e
+
+-- more controls cost no less
+pub base-rises : (k : ℕ) → base k ≤ base (suc k)
+unfolding base
+base-rises zero = omega arith
+base-rises (suc zero) = omega arith
+base-rises (suc (suc k)) = omega arith
+
+pub base-le : (j k : ℕ) → j ≤ k → base j ≤ base k
+base-le j zero le = (let e : j ≡ 0 = omega arith in rw e (omega arith))
+base-le j (suc k) le = ⊎-elim (λ (q : j ≡ suc k). omega (arith, ap base q)) (λ (l : j < suc k). omega (arith, base-le j k (omega arith), base-rises k)) (here-or-later le)
+
+pub base-six : (k : ℕ) → k ≤ 6 → base k ≤ 155
+base-six k le = rw (unfold-six) at (base-le k 6 le)
+  where
+    unfold-six : base 6 ≡ 155
+    unfold-six = unfold base in refl
+
+-- no control has the value 3, so the controls are those with another value than 3
+pub count-others : (g : Gate) → others 3 g ≡ controlCount g
+unfolding others controlCount
+count-others g = sum-ext _ _ 0 6 (λ k le lt. one (eqb (control g k) 3))
+  where
+    one : (b : Bool) → cond (b || b) 0 1 ≡ cond {A = ℕ} b 0 1
+    one true = refl
+    one false = refl
+
+pub one-at-most : (b : Bool) → cond b 0 1 ≤ 1
+one-at-most true = omega arith
+one-at-most false = omega arith
+
+pub others-few : (v : ℕ) (g : Gate) → others v g ≤ 6
+unfolding others
+others-few v g = sum-le (λ k. cond (eqb (control g k) 3 || eqb (control g k) v) 0 1) 1 0 6 (λ k. one-at-most (eqb (control g k) 3 || eqb (control g k) v))
+
+-- the target of a gate has no control, so it has five at most
+pub others-le : (n v : ℕ) (g : Gate) → n ≤ 6 → IsGate n g → others v g ≤ 5
+unfolding others
+others-le n v g six ok =
+    let none : cond {A = ℕ} (eqb (control g (g .target)) 3 || eqb (control g (g .target)) v) 0 1 ≡ 0 = rw (ok .own) in
+    let s = sum-le-but (λ k. cond (eqb (control g k) 3 || eqb (control g k) v) 0 1) 1 0 6 (g .target) (λ k. one-at-most (eqb (control g k) 3 || eqb (control g k) v)) (omega arith) (omega (arith, ok .on-line)) none in
+    omega arith
+
+-- a cascade's price is the sum over its parts
+pub price-append : (v : ℕ) (gs hs : List Gate) → cascadePrice v (gs ++ hs) ≡ cascadePrice v gs + cascadePrice v hs
+unfolding cascadePrice
+price-append v gs hs = total-append (gatePrice v) gs hs
+
+-- one turn of a loop that adds prices up, and its end
+pub price-more : (v : ℕ) (b : List ℕ) (m i cost : ℕ) → i < m
+    → cost + gatePrice v (gateOf b i) + cascadePrice v (span (gateOf b) (i + 1) (m - (i + 1))) ≡ cost + cascadePrice v (span (gateOf b) i (m - i))
+unfolding cascadePrice total
+price-more v b m i cost lt = rw (span-more (gateOf b) m i lt, add-assoc)
+
+pub price-ends : (v : ℕ) (b : List ℕ) (m i cost : ℕ) → m ≤ i → cost + cascadePrice v (span (gateOf b) i (m - i)) ≡ cost
+unfolding cascadePrice total
+price-ends v b m i cost le = rw (span-ends (gateOf b) m i le, add-zero)
+
+-- the dearest gate has five controls, none of the global value: 75 and 10
+pub price-le : (n v : ℕ) (g : Gate) → n ≤ 6 → IsGate n g → gatePrice v g ≤ 85
+unfolding gatePrice
+price-le n v g six ok =
+    let most : base 5 ≡ 75 = unfold base in refl in
+    let five : base (controlCount g) ≤ base 5 = base-le (controlCount g) 5 (rw (← count-others g) (others-le n 3 g six ok)) in
+    omega (arith, others-le n v g six ok)
+
+-- so the cost of any cascade fits 32 bits
+pub cost-fits : (n v : ℕ) (gs : List Gate) → n ≤ 6 → Cascade n gs → cascadePrice v gs ≤ 680000
+unfolding cascadePrice
+cost-fits n v gs six c =
+    let each : Each (λ g. gatePrice v g ≤ 85) gs = each-imp (IsGate n) (λ g. gatePrice v g ≤ 85) (λ g ok. price-le n v g six ok) gs (c .gates) in
+    omega (arith, total-le (gatePrice v) 85 gs each, c .most)

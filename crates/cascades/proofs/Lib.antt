@@ -1,0 +1,5 @@
+pub mod Cascades
+pub mod Undone
+pub mod Costs
+pub mod Answers
+pub mod Stored

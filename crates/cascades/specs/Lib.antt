@@ -1,0 +1,3 @@
+pub mod Cascades
+pub mod Prices
+pub mod Answers

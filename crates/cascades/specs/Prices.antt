@@ -1,0 +1,32 @@
+-- The price of a gate and of a cascade, at a global control value v.
+use Prim.Native.Nat.{ℕ, zero, suc, _+_, _*_}
+use mathlib.Core.Bool.{cond, _||_}
+use mathlib.Core.List.{List}
+use lib.Dec.{eqb}
+use Rattle.ranges.specs.Ranges.{sum}
+use Rattle.ranges.specs.Lists.{total}
+use Rattle.gates.specs.declared.Gate.{Gate}
+use Rattle.gates.specs.Gates.{control}
+
+-- the base price of k controls: 1, 1, 5, and from three on five more than twice the price with one fewer
+unfoldable pub base : ℕ → ℕ
+base zero = 1
+base (suc zero) = 1
+base (suc (suc zero)) = 5
+base (suc (suc (suc k))) = 2 * base (suc (suc k)) + 5
+
+-- how many controls a gate has
+unfoldable pub controlCount : Gate → ℕ
+controlCount g = sum (λ k. cond (eqb (control g k) 3) 0 1) 0 6
+
+-- how many of its controls have another value than v
+unfoldable pub others : ℕ → Gate → ℕ
+others v g = sum (λ k. cond (eqb (control g k) 3 || eqb (control g k) v) 0 1) 0 6
+
+-- each control whose value is not v adds 2
+unfoldable pub gatePrice : ℕ → Gate → ℕ
+gatePrice v g = base (controlCount g) + 2 * others v g
+
+-- a cascade costs the sum
+unfoldable pub cascadePrice : ℕ → List Gate → ℕ
+cascadePrice v gs = total (gatePrice v) gs

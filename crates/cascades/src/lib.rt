@@ -1,0 +1,238 @@
+// Cascades of gate records: checked, run on a pattern, written out as a table, inverted, and priced.
+ghost use mathlib.Core.Path.{_≡_};
+ghost use Prim.Native.Nat.{_≤_, _<_, _^_};
+ghost use mathlib.Core.Bool.{true};
+ghost use mathlib.Core.List.{_∷_, []};
+ghost use lib.ListN.{length};
+ghost use Rattle.card.specs.Card.{linesOk, Answer.accepted};
+ghost use Rattle.cascades.specs.Cascades.{gatesOf, ran};
+ghost use Rattle.cascades.specs.Prices.{cascadePrice};
+ghost use Rattle.cascades.specs.Answers.{countedAs, ranAs, tabulatedAs, pricedAs, sound, checkAnswer, runAnswer, tabulateAnswer, tabulateRoom, invertAnswer, invertRoom, priceAnswer};
+
+mod lengths;
+mod prices;
+mod undo;
+mod whole;
+
+use gates::Gate;
+use gates::Record;
+
+// So many gates, counted or written.
+pub enum Counted {
+    Gates(usize),
+    Refused { number: u8, place: usize },
+}
+
+// The pattern after a cascade.
+pub enum Ran {
+    Pattern(u16),
+    Refused { number: u8, place: usize },
+}
+
+// So many entries of a table, written.
+pub enum Tabulated {
+    Entries(usize),
+    Refused { number: u8, place: usize },
+}
+
+// What a cascade costs.
+pub enum Priced {
+    Cost(u32),
+    Refused { number: u8, place: usize },
+}
+
+// The cascade is one on so many lines: refusals 1, 6, 7.
+pub fn check_cascade(lines: u8, cascade: &[u8]) -> Counted
+    ensures { λ r. ⌜ countedAs r ≡ checkAnswer lines (now (cascade .entry)) ⌝ }
+{
+    if !card::lines_ok(lines) {
+        return Counted::Refused {
+            number: 1,
+            place: 0,
+        };
+    }
+    if !lengths::length_ok(cascade.len()) {
+        return Counted::Refused {
+            number: 6,
+            place: 0,
+        };
+    }
+    let m = cascade.len() / 8;
+    let mut i: usize = 0;
+    while i < m {
+        let Record::Gate {
+            operator: _,
+            target: _,
+            controls: _,
+        } = gates::decode(lines, cascade, 8 * i)
+        else {
+            return Counted::Refused {
+                number: 7,
+                place: i,
+            };
+        };
+        i = i + 1;
+    }
+    Counted::Gates(m)
+}
+
+// The cascade on a pattern of so many lines, with refusals 6 and 7 on the way: one pass.
+fn run_on(lines: u8, cascade: &[u8], pattern: u16) -> Ran
+    requires { ⌜ (linesOk lines ≡ true) × (pattern < 3 ^ lines) ⌝ }
+    ensures { λ r. ⌜ ranAs r ≡ sound lines (now (cascade .entry)) (accepted (ran (gatesOf (now (cascade .entry))) pattern ∷ [])) ⌝ }
+{
+    if !lengths::length_ok(cascade.len()) {
+        return Ran::Refused {
+            number: 6,
+            place: 0,
+        };
+    }
+    let m = cascade.len() / 8;
+    let mut p = pattern;
+    let mut i: usize = 0;
+    while i < m {
+        let Record::Gate {
+            operator,
+            target,
+            controls,
+        } = gates::decode(lines, cascade, 8 * i)
+        else {
+            return Ran::Refused {
+                number: 7,
+                place: i,
+            };
+        };
+        p = gates::apply(
+            Gate {
+                operator,
+                target,
+                controls,
+            },
+            p,
+        );
+        i = i + 1;
+    }
+    Ran::Pattern(p)
+}
+
+// The cascade on a pattern: refusals 1, 6, 7, 8.
+pub fn run(lines: u8, cascade: &[u8], pattern: u16) -> Ran
+    ensures { λ r. ⌜ ranAs r ≡ runAnswer lines (now (cascade .entry)) pattern ⌝ }
+{
+    if !card::lines_ok(lines) {
+        return Ran::Refused {
+            number: 1,
+            place: 0,
+        };
+    }
+    if pattern < digits::power(lines as usize) {
+        return run_on(lines, cascade, pattern);
+    }
+    match check_cascade(lines, cascade) {
+        Counted::Gates(_) => Ran::Refused {
+            number: 8,
+            place: 0,
+        },
+        Counted::Refused { number, place } => Ran::Refused { number, place },
+    }
+}
+
+// The table that the cascade computes, into a room for entries: refusals 1, 6, 7, 5.
+pub fn tabulate(lines: u8, cascade: &[u8], room: &mut [u16]) -> Tabulated
+    ensures { λ r. ⌜ tabulatedAs r ≡ tabulateAnswer lines (now (cascade .entry)) (length (now (room .entry))) ⌝ }
+    ensures { λ r. ⌜ now (room .exit) ≡ tabulateRoom lines (now (cascade .entry)) (now (room .entry)) ⌝ }
+{
+    match check_cascade(lines, cascade) {
+        Counted::Refused { number, place } => Tabulated::Refused { number, place },
+        Counted::Gates(m) => {
+            let size = digits::power(lines as usize) as usize;
+            if room.len() < size {
+                return Tabulated::Refused {
+                    number: 5,
+                    place: size,
+                };
+            }
+            whole::write_table(lines, cascade, m, &mut room[..size]);
+            Tabulated::Entries(size)
+        }
+    }
+}
+
+// The reversed list of the gates' inverses, into a room for records: refusals 1, 6, 7, 5.
+pub fn invert(lines: u8, cascade: &[u8], room: &mut [u8]) -> Counted
+    ensures { λ r. ⌜ countedAs r ≡ invertAnswer lines (now (cascade .entry)) (length (now (room .entry))) ⌝ }
+    ensures { λ r. ⌜ now (room .exit) ≡ invertRoom lines (now (cascade .entry)) (now (room .entry)) ⌝ }
+{
+    match check_cascade(lines, cascade) {
+        Counted::Refused { number, place } => Counted::Refused { number, place },
+        Counted::Gates(m) => {
+            if room.len() / 8 < m {
+                return Counted::Refused {
+                    number: 5,
+                    place: m,
+                };
+            }
+            undo::write_undoing(lines, cascade, m, room);
+            Counted::Gates(m)
+        }
+    }
+}
+
+// The sum of the gates' prices, with refusals 6 and 7 on the way: one pass.
+fn price_on(lines: u8, value: u8, cascade: &[u8]) -> Priced
+    requires { ⌜ linesOk lines ≡ true ⌝ }
+    ensures { λ r. ⌜ pricedAs r ≡ sound lines (now (cascade .entry)) (accepted (cascadePrice value (gatesOf (now (cascade .entry))) ∷ [])) ⌝ }
+{
+    if !lengths::length_ok(cascade.len()) {
+        return Priced::Refused {
+            number: 6,
+            place: 0,
+        };
+    }
+    let m = cascade.len() / 8;
+    let mut cost: u32 = 0;
+    let mut i: usize = 0;
+    while i < m {
+        let Record::Gate {
+            operator,
+            target,
+            controls,
+        } = gates::decode(lines, cascade, 8 * i)
+        else {
+            return Priced::Refused {
+                number: 7,
+                place: i,
+            };
+        };
+        cost = cost
+            + prices::price_gate(
+                value,
+                Gate {
+                    operator,
+                    target,
+                    controls,
+                },
+            );
+        i = i + 1;
+    }
+    Priced::Cost(cost)
+}
+
+// What the cascade costs at a global control value: refusals 1, 10, 6, 7.
+pub fn price(lines: u8, value: u8, cascade: &[u8]) -> Priced
+    ensures { λ r. ⌜ pricedAs r ≡ priceAnswer lines value (now (cascade .entry)) ⌝ }
+{
+    if !card::lines_ok(lines) {
+        return Priced::Refused {
+            number: 1,
+            place: 0,
+        };
+    }
+    if 2 < value {
+        return Priced::Refused {
+            number: 10,
+            place: 0,
+        };
+    }
+    price_on(lines, value, cascade)
+}
