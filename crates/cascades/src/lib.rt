@@ -12,7 +12,7 @@ ghost use Rattle.cascades.specs.Answers.{countedAs, ranAs, tabulatedAs, 
 mod lengths;
 mod prices;
 mod undo;
-mod whole;
+pub mod whole;
 
 use gates::Gate;
 use gates::Record;
@@ -57,9 +57,9 @@ pub fn check_cascade(lines: u8, cascade: &[u8]) -> Counted
             place: 0,
         };
     }
-    let m = cascade.len() / 8;
+    let count = cascade.len() / 8;
     let mut i: usize = 0;
-    while i < m {
+    while i < count {
         let Record::Gate {
             operator: _,
             target: _,
@@ -73,7 +73,7 @@ pub fn check_cascade(lines: u8, cascade: &[u8]) -> Counted
         };
         i = i + 1;
     }
-    Counted::Gates(m)
+    Counted::Gates(count)
 }
 
 // The cascade on a pattern of so many lines, with refusals 6 and 7 on the way: one pass.

@@ -1,0 +1,149 @@
+//! Cascades: checking, running, inverting and pricing them.
+
+use crate::answer::{Answer, Refusal};
+use crate::gate::{Gate, RECORD};
+use crate::pattern::{Digits, Lines};
+use crate::planes;
+
+/// The most gates of a cascade.
+pub const MOST_GATES: usize = 8_000;
+
+/// Is this a cascade on so many lines? Refusals 1, 6, 7; the answer is the
+/// number of gates.
+pub fn check(lines: u8, cascade: &[u8]) -> Answer<usize> {
+    let cascade = Cascade::check(Lines::check(lines)?, cascade)?;
+    Ok(cascade.len())
+}
+
+/// What the cascade makes of a pattern. Refusals 1, 6, 7, 8.
+pub fn run(lines: u8, cascade: &[u8], pattern: u16) -> Answer<u16> {
+    let lines = Lines::check(lines)?;
+    let cascade = Cascade::check(lines, cascade)?;
+    match Digits::of(pattern as usize) {
+        Some(digits) if (pattern as usize) < lines.patterns() => {
+            let after = cascade.gates().fold(digits, |digits, gate| gate.apply(digits));
+            Ok(after.pattern())
+        }
+        _ => Err(Refusal::pattern_too_large()),
+    }
+}
+
+/// What the cascade makes of every pattern, as a table. Refusals 1, 6, 7, 5; the
+/// answer is the number of entries.
+pub fn tabulate(lines: u8, cascade: &[u8], room: &mut [u16]) -> Answer<usize> {
+    let lines = Lines::check(lines)?;
+    let cascade = Cascade::check(lines, cascade)?;
+    let entries = lines.patterns();
+    let Some(room) = room.get_mut(..entries) else {
+        return Err(Refusal::room_too_small(entries));
+    };
+    planes::tabulate(cascade, room);
+    Ok(entries)
+}
+
+/// Writes the cascade that undoes this one: reversed, each gate replaced by its
+/// inverse. Refusals 1, 6, 7, 5; the answer is the number of gates.
+pub fn invert(lines: u8, cascade: &[u8], room: &mut [u8]) -> Answer<usize> {
+    let cascade = Cascade::check(Lines::check(lines)?, cascade)?;
+    let (room, _) = room.as_chunks_mut::<RECORD>();
+    let Some(room) = room.get_mut(..cascade.len()) else {
+        return Err(Refusal::room_too_small(cascade.len()));
+    };
+    for (record, gate) in room.iter_mut().rev().zip(cascade.gates()) {
+        *record = gate.inverse().record();
+    }
+    Ok(cascade.len())
+}
+
+/// The quantum cost under a global control value. Refusals 1, 10, 6, 7.
+pub fn price(lines: u8, value: u8, cascade: &[u8]) -> Answer<u32> {
+    let lines = Lines::check(lines)?;
+    let value = GlobalValue::check(value)?;
+    Ok(Cascade::check(lines, cascade)?.cost(value))
+}
+
+/// A checked cascade on a known number of lines.
+#[derive(Clone, Copy)]
+pub struct Cascade<'a> {
+    lines: Lines,
+    records: &'a [[u8; RECORD]],
+}
+
+impl<'a> Cascade<'a> {
+    /// Refusals 6, 7.
+    pub fn check(lines: Lines, bytes: &'a [u8]) -> Answer<Cascade<'a>> {
+        let (records, odd_bytes) = bytes.as_chunks::<RECORD>();
+        if !odd_bytes.is_empty() || records.len() > MOST_GATES {
+            return Err(Refusal::cascade_length());
+        }
+        match records.iter().position(|&record| Gate::read(lines, record).is_none()) {
+            Some(place) => Err(Refusal::not_a_gate(place)),
+            None => Ok(Cascade { lines, records }),
+        }
+    }
+
+    pub fn lines(self) -> Lines {
+        self.lines
+    }
+
+    pub fn len(self) -> usize {
+        self.records.len()
+    }
+
+    pub fn is_empty(self) -> bool {
+        self.records.is_empty()
+    }
+
+    /// The gates, first to last.
+    pub fn gates(self) -> impl DoubleEndedIterator<Item = Gate> + ExactSizeIterator + 'a {
+        self.records.iter().map(|&record| Gate::of_checked(record))
+    }
+
+    pub fn cost(self, value: GlobalValue) -> u32 {
+        self.gates().map(|gate| gate_cost(gate, value)).sum()
+    }
+}
+
+/// The control value that a board's gates have for free.
+#[derive(Clone, Copy, Debug, PartialEq, Eq)]
+pub struct GlobalValue(u8);
+
+impl GlobalValue {
+    /// The value for which listings state the cost.
+    pub const TWO: GlobalValue = GlobalValue(2);
+
+    /// Refusal 10.
+    pub fn check(value: u8) -> Answer<GlobalValue> {
+        if value <= 2 {
+            Ok(GlobalValue(value))
+        } else {
+            Err(Refusal::global_value_above_2())
+        }
+    }
+}
+
+fn gate_cost(gate: Gate, value: GlobalValue) -> u32 {
+    let (controls, at_value) = gate.count_controls(value.0);
+    BASE_COST[controls] + 2 * (controls - at_value) as u32
+}
+
+/// Looked up by the number of controls. A gate has at most five; the two last
+/// places only make every index of three bits a good one.
+const BASE_COST: [u32; 8] = {
+    let mut costs = [0; 8];
+    let mut controls = 0;
+    while controls < costs.len() {
+        costs[controls] = base_cost(controls);
+        controls += 1;
+    }
+    costs
+};
+
+/// From three controls on, five more than twice the cost with one fewer.
+const fn base_cost(controls: usize) -> u32 {
+    match controls {
+        0 | 1 => 1,
+        2 => 5,
+        _ => 5 + 2 * base_cost(controls - 1),
+    }
+}

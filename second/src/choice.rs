@@ -1,0 +1,35 @@
+//! The cheaper of two.
+
+use crate::answer::{Answer, Refusal};
+use crate::cascade::{Cascade, GlobalValue};
+use crate::pattern::Lines;
+use crate::planes;
+
+/// The answers of [`choose`].
+pub const FIRST: u8 = 1;
+pub const SECOND: u8 = 2;
+
+/// Hands back that lent cascade which costs less, then the one with fewer gates,
+/// then the first. A refusal hands back the empty part at the start of the first;
+/// [`choose`] tells which refusal.
+pub fn cheaper<'a>(lines: u8, value: u8, first: &'a [u8], second: &'a [u8]) -> &'a [u8] {
+    match choose(lines, value, first, second) {
+        Ok(SECOND) => second,
+        Ok(_) => first,
+        Err(_) => &first[..0],
+    }
+}
+
+/// Which of the two [`cheaper`] hands back: 1 or 2. Refusals 1, 10, then 6 and 7
+/// of the first, 6 and 7 of the second, 11.
+pub fn choose(lines: u8, value: u8, first: &[u8], second: &[u8]) -> Answer<u8> {
+    let lines = Lines::check(lines)?;
+    let value = GlobalValue::check(value)?;
+    let first = Cascade::check(lines, first)?;
+    let second = Cascade::check(lines, second)?;
+    if let Some(input) = planes::first_difference(first, second) {
+        return Err(Refusal::different_tables(input));
+    }
+    let worth = |cascade: Cascade| (cascade.cost(value), cascade.len());
+    Ok(if worth(second) < worth(first) { SECOND } else { FIRST })
+}

@@ -1,0 +1,39 @@
+//! Reversible ternary logic: tables into cascades, and what one does with cascades.
+//!
+//! This is the second of two implementations that share nothing but their
+//! documents. One module stands for each section of document 01:
+//!
+//! | module        | section                                                        |
+//! |---------------|----------------------------------------------------------------|
+//! | [`answer`]    | The refusal card                                               |
+//! | [`pattern`]   | Patterns, tables, gates: line counts, patterns and their digits |
+//! | [`table`]     | Patterns, tables, gates: what table is a permutation           |
+//! | [`gate`]      | Patterns, tables, gates: operators and gate records            |
+//! | [`cascade`]   | check, run, tabulate, invert; The price of a gate              |
+//! | [`synthesis`] | From table to cascade                                          |
+//! | [`tidying`]   | Tidying                                                        |
+//! | [`choice`]    | The cheaper of two                                             |
+//! | [`file`](mod@file) | The cascade file                                          |
+//! | [`listing`](mod@listing) | From table to cascade: the printed text             |
+//! | [`sheet`](mod@sheet) | From table to cascade: the program                      |
+//!
+//! Every call takes any bytes and any numbers. It answers a value or a
+//! [`Refusal`](answer::Refusal), and a refused call leaves all lent memory as it
+//! was. Inside, a number of lines that has been checked is a `Lines`, a record
+//! that has been checked is a `Gate`, a table a `Permutation`, bytes a `Cascade`:
+//! what has one of these types needs no second look.
+
+#![forbid(unsafe_code)]
+
+pub mod answer;
+pub mod cascade;
+pub mod choice;
+pub mod file;
+pub mod gate;
+pub mod listing;
+pub mod pattern;
+mod planes;
+pub mod sheet;
+pub mod synthesis;
+pub mod table;
+pub mod tidying;

@@ -1,0 +1,24 @@
+//! All tests that look at the library from outside.
+//!
+//! `plain` is document 01 read word for word, with no thought of speed; the
+//! library is compared with it wherever the document gives no figures. `calls`
+//! lends each call rooms full of marks and sees that nothing else was touched.
+
+// Loops over lines and values read best as the documents count.
+#![allow(clippy::needless_range_loop)]
+
+mod any_input;
+mod calls;
+mod cascades;
+mod choice;
+mod digests;
+mod examples;
+mod files;
+mod helpers;
+mod listing;
+mod plain;
+mod program;
+mod published;
+mod refusals;
+mod synthesis;
+mod tidying;

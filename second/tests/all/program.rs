@@ -1,0 +1,49 @@
+//! The program itself, over standard input and output.
+
+use std::io::Write;
+use std::process::{Command, Output, Stdio};
+
+use crate::helpers::Numbers;
+
+fn program(arguments: &[&str], input: &[u8]) -> Output {
+    let mut child = Command::new(env!("CARGO_BIN_EXE_second"))
+        .args(arguments)
+        .stdin(Stdio::piped())
+        .stdout(Stdio::piped())
+        .stderr(Stdio::piped())
+        .spawn()
+        .unwrap();
+    // A program that has seen enough need not read the rest.
+    let _ = child.stdin.take().unwrap().write_all(input);
+    child.wait_with_output().unwrap()
+}
+
+#[test]
+fn it_prints_what_the_library_says() {
+    let mut numbers = Numbers(23);
+    let mut inputs = vec![vec![], vec![0], vec![1], vec![7; 100], vec![6; 1_459], vec![6; 1_460]];
+    inputs.push(vec![3; 1_000_000]);
+    for lines in 1..=6 {
+        let mut file = vec![lines as u8];
+        file.extend(numbers.table(lines).iter().flat_map(|entry| entry.to_le_bytes()));
+        inputs.push(file.clone());
+        file.push(0);
+        inputs.push(file);
+    }
+    for input in inputs {
+        let output = program(&["sheet"], &input);
+        assert!(output.status.success());
+        assert_eq!(output.stdout, second::sheet::text(&input));
+        assert!(output.stderr.is_empty());
+    }
+}
+
+#[test]
+fn it_says_how_it_is_used() {
+    for arguments in [&[][..], &["table"], &["sheet", "more"]] {
+        let output = program(arguments, &[]);
+        assert_eq!(output.status.code(), Some(2));
+        assert!(output.stdout.is_empty());
+        assert!(output.stderr.starts_with(b"use: second sheet"));
+    }
+}
