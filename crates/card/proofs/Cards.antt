@@ -37,14 +37,21 @@ pub good-lines : (n : ℕ) (x : Answer) → linesOk n ≡ true → onLines n x �
 unfolding onLines
 good-lines n x e = refusing-no (not (linesOk n)) 1 0 x (rw e)
 
+-- a lent buffer afterwards
+pub after-accepted : (a : Answer) (vs new old : List ℕ) → a ≡ accepted vs → after a new old ≡ new
+unfolding after
+after-accepted a vs new old e = rw e
+
+pub after-refused : (a : Answer) (k p : ℕ) (new old : List ℕ) → a ≡ refused k p → after a new old ≡ old
+unfolding after
+after-refused a k p new old e = rw e
+
 -- a call's two promises at once: the answer, and what the lent buffer holds
 pub refused-both : (a : Answer) (k p : ℕ) (new old : List ℕ) → a ≡ refused k p → (refused k p ≡ a) × (old ≡ after a new old)
-unfolding after
-refused-both a k p new old e = (sym e, rw e)
+refused-both a k p new old e = (sym e, sym (after-refused a k p new old e))
 
 pub accepted-both : (a : Answer) (vs new old now : List ℕ) → a ≡ accepted vs → now ≡ new → (accepted vs ≡ a) × (now ≡ after a new old)
-unfolding after
-accepted-both a vs new old now e f = (sym e, rw e f)
+accepted-both a vs new old now e f = (sym e, f ∙ sym (after-accepted a vs new old e))
 
 -- stores from the start of a room on
 pub sets-laid : (xs room : List ℕ) → length xs ≤ length room → sets room 0 xs ≡ laid xs room

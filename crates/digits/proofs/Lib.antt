@@ -1,3 +1,4 @@
 pub mod Digits
 pub mod Packs
 pub mod Three
+pub mod Sizes

@@ -4,6 +4,7 @@ use mathlib.Core.Path.{_≡_}
 use mathlib.Core.Logic.{_⊎_}
 use Prim.Native.Nat.{ℕ, suc, _+_, _-_, _≤_, _<_}
 use native.Mathlib.Nat.{eq-or-lt-of-le}
+use native.Mathlib.Decide.{decLt}
 use native.Mathlib.Omega.{arith}
 
 pub left-suc : (m k : ℕ) → k < m → m - k ≡ suc (m - (k + 1))
@@ -15,3 +16,11 @@ left-zero m k le = omega arith
 -- a number from i on is i, or one from i + 1 on
 pub here-or-later : {i k : ℕ} → i ≤ k → (i ≡ k) ⊎ (i < k)
 here-or-later le = eq-or-lt-of-le le
+
+-- of two numbers the first is below the second, or not
+pub lt-or-le : (a b : ℕ) → (a < b) ⊎ (b ≤ a)
+lt-or-le a b = go (decLt a b)
+  where
+    go : Dec (a < b) → (a < b) ⊎ (b ≤ a)
+    go (yes l) = _⊎_.inl l
+    go (no l) = _⊎_.inr (omega arith)

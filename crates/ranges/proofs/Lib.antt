@@ -7,3 +7,4 @@ pub mod Spans
 pub mod Lists
 pub mod Stores
 pub mod Fills
+pub mod Blocks

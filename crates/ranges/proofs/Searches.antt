@@ -4,11 +4,9 @@ use mathlib.Core.Logic.{_⊎_, ⊎-elim}
 use mathlib.Core.Bool.{Bool, true, false, cond}
 use Prim.Native.Nat.{ℕ, zero, suc, _+_, _-_, _≤_, _<_}
 use native.Mathlib.Omega.{arith}
-use lib.Dec.{ltb}
-use borrow.Author.Tests.{ltb-true, ltb-false}
 use Rattle.ranges.specs.Ranges.{first}
-use Rattle.ranges.proofs.Counts.{left-suc, left-zero, here-or-later}
-use Rattle.ranges.proofs.Bools.{decide, clash}
+use Rattle.ranges.proofs.Counts.{left-suc, left-zero, here-or-later, lt-or-le}
+use Rattle.ranges.proofs.Bools.{clash}
 
 -- r is the first number from i on of which f holds, or the end e where none below e has it
 pub record Found (f : ℕ → Bool) (i e r : ℕ) : Type 0 where
@@ -33,9 +31,6 @@ pub found : (f : ℕ → Bool) (i m : ℕ) → Found f i (i + m) (first f i m)
 unfolding first
 found f i zero = record { from = omega arith; within = omega arith; before = λ k le lt. absurd (omega arith); hit = λ lt. absurd (omega arith) }
 found f i (suc m) = found-step f i m (f i) refl (found f (i + 1) m)
-
-lt-or-le : (a b : ℕ) → (a < b) ⊎ (b ≤ a)
-lt-or-le a b = ⊎-elim (λ (e : ltb a b ≡ true). _⊎_.inl (ltb-true a b e)) (λ (e : ltb a b ≡ false). _⊎_.inr (ltb-false a b e)) (decide (ltb a b))
 
 not-below : (f : ℕ → Bool) (i e r s : ℕ) → Found f i e r → Found f i e s → s ≤ r
 not-below f i e r s a b =

@@ -5,7 +5,7 @@ use Prim.Native.Nat.{ℕ, zero, suc, _+_, _≤_, _<_}
 use native.Mathlib.Nat.{add-zero, add-suc, suc-add}
 use native.Mathlib.Omega.{arith}
 use lib.ListN.{length, getD, set, take, drop, List·getD-append}
-use lib.Seq.{sets, sets-eq, length-take-le, getD-append-add, getD-set-other, getD-drop}
+use lib.Seq.{sets, sets-eq, set-comm, length-take-le, getD-append-add, getD-set-other}
 
 module _ {A : Type 0} where
   -- inside the run stands what was stored
@@ -28,3 +28,19 @@ module _ {A : Type 0} where
   pub sets-append : (vs ws l : List A) (i : ℕ) → sets l i (vs ++ ws) ≡ sets (sets l i vs) (i + length vs) ws
   sets-append [] ws l i = rw add-zero
   sets-append (v ∷ vs) ws l i = rw (add-suc, ← suc-add i (length vs)) (sets-append vs ws (set l i v) (suc i))
+
+  -- runs that do not meet may be made in either order
+  set-sets : (vs l : List A) (i j : ℕ) (u : A) → i < j → set (sets l j vs) i u ≡ sets (set l i u) j vs
+  set-sets [] l i j u lt = refl
+  set-sets (v ∷ vs) l i j u lt =
+      set-sets vs (set l j v) i (suc j) u (omega arith) ∙ ap (λ (x : List A). sets x (suc j) vs) (set-comm l j i v u (λ e. omega arith))
+
+  pub sets-sets : (us vs l : List A) (i j : ℕ) → i + length us ≤ j → sets (sets l j vs) i us ≡ sets (sets l i us) j vs
+  sets-sets [] vs l i j le = refl
+  sets-sets (u ∷ us) vs l i j le =
+      ap (λ (x : List A). sets x (suc i) us) (set-sets vs l i j u (omega arith)) ∙ sets-sets us vs (set l i u) (suc i) j (omega arith)
+
+  -- a run right before another
+  pub sets-before : (us vs l : List A) (i j : ℕ) → i + length us ≡ j → sets (sets l j vs) i us ≡ sets l i (us ++ vs)
+  sets-before us vs l i j e =
+      sets-sets us vs l i j (omega arith) ∙ ap (λ (x : ℕ). sets (sets l i us) x vs) (sym e) ∙ sym (sets-append us vs l i)

@@ -1,9 +1,9 @@
 -- The laws of `every` and `some`: what they say of each number, and one turn of a loop that tests. Assumes nothing.
 use mathlib.Core.Path.{_≡_, refl, sym, ap, ap₂, _∙_, subst}
 use mathlib.Core.Logic.{_⊎_, ⊎-elim}
-use mathlib.Core.Bool.{Bool, true, false, _&&_, _||_}
+use mathlib.Core.Bool.{Bool, true, false, _&&_, _||_, or-false, or-assoc}
 use Prim.Native.Nat.{ℕ, zero, suc, _+_, _-_, _≤_, _<_}
-use native.Mathlib.Nat.{zero-add}
+use native.Mathlib.Nat.{add-zero}
 use native.Mathlib.Omega.{arith}
 use Rattle.ranges.specs.Ranges.{every, some}
 use Rattle.ranges.proofs.Counts.{left-suc, left-zero, here-or-later}
@@ -70,3 +70,11 @@ unfolding some
 some-not f i zero h = refl
 some-not f i (suc m) h =
     rw (h i (omega arith) (omega arith)) (some-not f (i + 1) m (λ k le lt. h k (omega arith) (omega arith)))
+
+-- one number more at the end
+pub some-snoc : (f : ℕ → Bool) (i m : ℕ) → some f i (suc m) ≡ (some f i m || f (i + m))
+unfolding some
+some-snoc f i zero = rw (add-zero i) (or-false (f i))
+some-snoc f i (suc m) =
+    let e : i + 1 + m ≡ i + suc m = omega arith in
+    rw (some-snoc f (i + 1) m, e) (sym (or-assoc (f i) (some f (i + 1) m) (f (i + suc m))))

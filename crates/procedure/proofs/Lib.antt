@@ -1,0 +1,9 @@
+pub mod Families
+pub mod Mixes
+pub mod Steps
+pub mod Differences
+pub mod Settles
+pub mod Bounds
+pub mod Pairs
+pub mod Inverses
+pub mod Swaps

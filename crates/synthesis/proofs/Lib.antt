@@ -1,0 +1,8 @@
+pub mod Exchangers
+pub mod Controls
+pub mod Ternary
+pub mod Synthesis
+pub mod Moves
+pub mod Layings
+pub mod Copies
+pub mod Answers

@@ -1,0 +1,2 @@
+pub mod Synthesis
+pub mod Steps

@@ -1,0 +1,173 @@
+-- Which tables are accepted. `tabled-is` says which case `tabled` is, `checked-refused` and `checked-accepted` what a check leaves to the calls that go on,
+-- and `accepted-iff` that a table is accepted exactly if the lines are 1 to 6 and it is a permutation of the patterns.
+-- It rests on what the first entry with a property says of those before it. Assumes nothing.
+use mathlib.Core.Path.{_≡_, sym, ap, _∙_}
+use mathlib.Core.Logic.{_⊎_, ⊎-elim, _↔_}
+use mathlib.Core.Bool.{Bool, true, false, not}
+use mathlib.Core.List.{List, []}
+use Prim.Native.Nat.{ℕ, _^_, _≤_, _<_}
+use native.Mathlib.Omega.{arith}
+use lib.Dec.{eqb, ltb}
+use lib.ListN.{length, getD}
+use borrow.Author.Tests.{eqb-true, eqb-false, eq-eqb, ne-eqb, ltb-true, ltb-false, lt-ltb, le-ltb, leb-false, lt-leb}
+use Rattle.ranges.specs.Ranges.{first}
+use Rattle.ranges.proofs.Bools.{decide, clash}
+use Rattle.ranges.proofs.Counts.{lt-or-le}
+use Rattle.ranges.proofs.Tests.{some-none, some-not}
+use Rattle.ranges.proofs.Searches.{found}
+use Rattle.card.specs.Card.{Answer, Answer.accepted, Answer.refused, refusing, linesOk, onLines}
+use Rattle.card.proofs.Cards.{refusing-yes, refusing-no}
+use Rattle.card.proofs.Cards.{no-lines, good-lines}
+use Rattle.tables.specs.Tables.{tooLarge, repeated, firstLarge, firstRepeated, tabled, checkTableAnswer}
+use Rattle.tables.specs.Permutations.{Permutation}
+
+-- ---- the search for the first finds nothing exactly if no number has the property
+
+past : (f : ℕ → Bool) (m : ℕ) → ltb (first f 0 m) m ≡ false → (k : ℕ) → k < m → f k ≡ false
+past f m e k lt = found f 0 m .before k (omega arith) (omega (arith, ltb-false (first f 0 m) m e))
+
+none : (f : ℕ → Bool) (m : ℕ) → ((k : ℕ) → k < m → f k ≡ false) → ltb (first f 0 m) m ≡ false
+none f m h =
+    ⊎-elim (λ (e : ltb (first f 0 m) m ≡ true). let l = ltb-true (first f 0 m) m e in clash (f (first f 0 m)) (found f 0 m .hit (omega arith)) (h _ l))
+    (λ (e : ltb (first f 0 m) m ≡ false). e) (decide (ltb (first f 0 m) m))
+
+-- ---- the cases of `tabled`
+
+-- the table is refused by number and place, whatever the call would answer
+pub record Refuses (n : ℕ) (t : List ℕ) : Type 0 where
+  pub number : ℕ
+  pub place : ℕ
+  pub always : (x : Answer) → tabled n t x ≡ refused number place
+
+module _ (n : ℕ) (t : List ℕ) where
+  module _ (x : Answer) where
+    pub tabled-size : (length t ≡ 3 ^ n → ⊥) → tabled n t x ≡ refused 2 0
+    unfolding tabled
+    tabled-size ne = refusing-yes _ 2 0 _ (ap not (ne-eqb (length t) (3 ^ n) ne))
+
+    module _ (size : length t ≡ 3 ^ n) where
+      sized : (y : Answer) → refusing (not (eqb (length t) (3 ^ n))) 2 0 y ≡ y
+      sized y = refusing-no _ 2 0 y (ap not (eq-eqb (length t) (3 ^ n) size))
+
+      pub tabled-large : ltb (firstLarge n t) (length t) ≡ true → tabled n t x ≡ refused 3 (firstLarge n t)
+      unfolding tabled
+      tabled-large e = sized _ ∙ refusing-yes _ 3 _ _ e
+
+      pub tabled-repeated : ltb (firstLarge n t) (length t) ≡ false → ltb (firstRepeated t) (length t) ≡ true → tabled n t x ≡ refused 4 (firstRepeated t)
+      unfolding tabled
+      tabled-repeated e f = sized _ ∙ refusing-no _ 3 _ _ e ∙ refusing-yes _ 4 _ x f
+
+      pub tabled-none : ltb (firstLarge n t) (length t) ≡ false → ltb (firstRepeated t) (length t) ≡ false → tabled n t x ≡ x
+      unfolding tabled
+      tabled-none e f = sized _ ∙ refusing-no _ 3 _ _ e ∙ refusing-no _ 4 _ x f
+
+  -- where no entry is too large or repeated, the table is a permutation
+  pub entries-below : ltb (firstLarge n t) (length t) ≡ false → (p : ℕ) → p < length t → getD t p 0 < 3 ^ n
+  unfolding firstLarge tooLarge
+  entries-below e p lt = leb-false (3 ^ n) (getD t p 0) (past (tooLarge n t) (length t) e p lt)
+
+  earlier-differ : ltb (firstRepeated t) (length t) ≡ false → (p q : ℕ) → p < q → q < length t → getD t p 0 ≡ getD t q 0 → ⊥
+  unfolding firstRepeated repeated
+  earlier-differ e p q lt lq =
+      eqb-false (getD t p 0) (getD t q 0)
+      (some-none (λ j. eqb (getD t j 0) (getD t q 0)) 0 q (past (repeated t) (length t) e q lq) p (omega arith) (omega arith))
+
+  permutation-of : length t ≡ 3 ^ n → ltb (firstLarge n t) (length t) ≡ false → ltb (firstRepeated t) (length t) ≡ false → Permutation 3 n t
+  permutation-of size e f =
+      record { size = size; within = λ p lp. entries-below e p (omega arith); apart = λ p q lp lq same. apart p q lp lq same (lt-or-le p q) (lt-or-le q p) }
+    where
+      apart : (p q : ℕ) → p < 3 ^ n → q < 3 ^ n → getD t p 0 ≡ getD t q 0 → (p < q) ⊎ (q ≤ p) → (q < p) ⊎ (p ≤ q) → p ≡ q
+      apart p q lp lq same (_⊎_.inl l) d = absurd (earlier-differ f p q l (omega arith) same)
+      apart p q lp lq same (_⊎_.inr l) (_⊎_.inl g) = absurd (earlier-differ f q p g (omega arith) (sym same))
+      apart p q lp lq same (_⊎_.inr l) (_⊎_.inr g) = omega arith
+
+  -- and the other way round
+  none-large : Permutation 3 n t → ltb (firstLarge n t) (length t) ≡ false
+  unfolding firstLarge tooLarge
+  none-large w = none (tooLarge n t) (length t) (λ p lt. lt-leb (3 ^ n) (getD t p 0) (w .within p (omega (arith, w .size))))
+
+  none-repeated : Permutation 3 n t → ltb (firstRepeated t) (length t) ≡ false
+  unfolding firstRepeated repeated
+  none-repeated w =
+      none (repeated t) (length t)
+      (λ q lq.
+      some-not _ 0 q (λ p le lp. ne-eqb (getD t p 0) (getD t q 0) (λ e. let same = w .apart p q (omega (arith, w .size)) (omega (arith, w .size)) e in omega arith)))
+
+  -- a permutation is passed on
+  pub tabled-permutation : Permutation 3 n t → (x : Answer) → tabled n t x ≡ x
+  tabled-permutation w x = tabled-none x (w .size) (none-large w) (none-repeated w)
+
+  -- a table is a permutation, or always refused
+  pub tabled-is : Permutation 3 n t ⊎ Refuses n t
+  tabled-is = go (decide (eqb (length t) (3 ^ n))) (decide (ltb (firstLarge n t) (length t))) (decide (ltb (firstRepeated t) (length t)))
+    where
+      go : (eqb (length t) (3 ^ n) ≡ true) ⊎ (eqb (length t) (3 ^ n) ≡ false)
+          → (ltb (firstLarge n t) (length t) ≡ true) ⊎ (ltb (firstLarge n t) (length t) ≡ false)
+          → (ltb (firstRepeated t) (length t) ≡ true) ⊎ (ltb (firstRepeated t) (length t) ≡ false) → Permutation 3 n t ⊎ Refuses n t
+      go (_⊎_.inr e) f g = _⊎_.inr (record { number = 2; place = 0; always = λ x. tabled-size x (eqb-false (length t) (3 ^ n) e) })
+      go (_⊎_.inl e) (_⊎_.inl f) g =
+          _⊎_.inr (record { number = 3; place = firstLarge n t; always = λ x. tabled-large x (eqb-true (length t) (3 ^ n) e) f })
+      go (_⊎_.inl e) (_⊎_.inr f) (_⊎_.inl g) =
+          _⊎_.inr (record { number = 4; place = firstRepeated t; always = λ x. tabled-repeated x (eqb-true (length t) (3 ^ n) e) f g })
+      go (_⊎_.inl e) (_⊎_.inr f) (_⊎_.inr g) = _⊎_.inl (permutation-of (eqb-true (length t) (3 ^ n) e) f g)
+
+  -- ---- with refusal 1
+
+  module _ (ok : linesOk n ≡ true) where
+    -- the cases of the check, as its code meets them
+    pub check-size : (length t ≡ 3 ^ n → ⊥) → refused 2 0 ≡ checkTableAnswer n t
+    unfolding checkTableAnswer
+    check-size ne = sym (good-lines n _ ok ∙ tabled-size (accepted []) ne)
+
+    module _ (size : length t ≡ 3 ^ n) where
+      pub check-large : (i : ℕ) → i ≡ firstLarge n t → i < length t → refused 3 i ≡ checkTableAnswer n t
+      unfolding checkTableAnswer
+      check-large i e lt = ap (refused 3) e ∙ sym (good-lines n _ ok ∙ tabled-large (accepted []) size (lt-ltb (firstLarge n t) (length t) (omega arith)))
+
+      pub check-repeated : (i j : ℕ) → i ≡ firstLarge n t → length t ≤ i → j ≡ firstRepeated t → j < length t → refused 4 j ≡ checkTableAnswer n t
+      unfolding checkTableAnswer
+      check-repeated i j e ge f lt =
+          ap (refused 4) f
+          ∙ sym (good-lines n _ ok ∙ tabled-repeated (accepted []) size (le-ltb (firstLarge n t) (length t) (omega arith)) (lt-ltb (firstRepeated t) (length t) (omega arith)))
+
+      pub check-none : (i j : ℕ) → i ≡ firstLarge n t → length t ≤ i → j ≡ firstRepeated t → length t ≤ j → accepted [] ≡ checkTableAnswer n t
+      unfolding checkTableAnswer
+      check-none i j e ge f le =
+          sym (good-lines n _ ok ∙ tabled-none (accepted []) size (le-ltb (firstLarge n t) (length t) (omega arith)) (le-ltb (firstRepeated t) (length t) (omega arith)))
+
+  -- what a check refuses, every call on the table refuses alike
+  pub checked-refused : (k p : ℕ) → checkTableAnswer n t ≡ refused k p → (x : Answer) → onLines n (tabled n t x) ≡ refused k p
+  unfolding checkTableAnswer
+  checked-refused k p e x = go (decide (linesOk n)) tabled-is
+    where
+      go : (linesOk n ≡ true) ⊎ (linesOk n ≡ false) → Permutation 3 n t ⊎ Refuses n t → onLines n (tabled n t x) ≡ refused k p
+      go (_⊎_.inr bad) c = no-lines n _ bad ∙ sym (no-lines n _ bad) ∙ e
+      go (_⊎_.inl ok) (_⊎_.inl w) =
+          let a : refused k p ≡ accepted [] = sym e ∙ good-lines n _ ok ∙ tabled-permutation w (accepted []) in
+          let z : _≡_ {A = ℕ} 0 1 = cc in absurd (omega arith)
+      go (_⊎_.inl ok) (_⊎_.inr r) = good-lines n _ ok ∙ r .always x ∙ sym (r .always (accepted [])) ∙ sym (good-lines n _ ok) ∙ e
+
+  pub accepted-permutation : checkTableAnswer n t ≡ accepted [] → (linesOk n ≡ true) × Permutation 3 n t
+  unfolding checkTableAnswer
+  accepted-permutation e = go (decide (linesOk n)) tabled-is
+    where
+      go : (linesOk n ≡ true) ⊎ (linesOk n ≡ false) → Permutation 3 n t ⊎ Refuses n t → (linesOk n ≡ true) × Permutation 3 n t
+      go (_⊎_.inr bad) c =
+          let a : refused 1 0 ≡ accepted [] = sym (no-lines n _ bad) ∙ e in
+          let z : _≡_ {A = ℕ} 0 1 = cc in absurd (omega arith)
+      go (_⊎_.inl ok) (_⊎_.inl w) = (ok, w)
+      go (_⊎_.inl ok) (_⊎_.inr r) =
+          let a : refused (r .number) (r .place) ≡ accepted [] = sym (r .always (accepted [])) ∙ sym (good-lines n _ ok) ∙ e in
+          let z : _≡_ {A = ℕ} 0 1 = cc in absurd (omega arith)
+
+  pub permutation-passed : linesOk n ≡ true → Permutation 3 n t → (x : Answer) → onLines n (tabled n t x) ≡ x
+  permutation-passed ok w x = good-lines n _ ok ∙ tabled-permutation w x
+
+  -- what a check accepts, every call on the table goes on with
+  pub checked-accepted : checkTableAnswer n t ≡ accepted [] → (x : Answer) → onLines n (tabled n t x) ≡ x
+  checked-accepted e = let w = accepted-permutation e in permutation-passed (w .0) (w .1)
+
+  -- accepted exactly if the lines are 1 to 6 and the table is a permutation
+  pub accepted-iff : (checkTableAnswer n t ≡ accepted []) ↔ ((linesOk n ≡ true) × Permutation 3 n t)
+  unfolding checkTableAnswer
+  accepted-iff = (accepted-permutation, λ w. permutation-passed (w .0) (w .1) (accepted []))
