@@ -1,12 +1,11 @@
 -- Document 01's procedure from a table to a cascade, over the radix r and a family of gates: `apply g p` is what the gate g makes of the pattern p,
 -- and `make n k a d` is the gate on n lines that exchanges the pattern a with the one that has d for its digit k.
-use Prim.Native.Nat.{ℕ, zero, suc, _^_, _<_}
-use mathlib.Core.Path.{_≡_}
+use Prim.Native.Nat.{ℕ, zero, suc, _^_}
 use mathlib.Core.Bool.{cond}
 use mathlib.Core.List.{List, [], _∷_, map}
 use lib.Dec.{eqb}
 use lib.ListN.{getD}
-use Rattle.digits.specs.Digits.{digit, put}
+use Rattle.digits.specs.Digits.{digit}
 
 -- the present entries, and the gates added so far, the newest first
 pub record State (G : Type 0) : Type 0 where

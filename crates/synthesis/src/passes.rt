@@ -55,6 +55,7 @@ fn write_rows(n: usize, table: &mut [u16], inverse: &mut [u16], room: &mut [u8],
     }
 }
 
+// The first pass, in lent arrays of the table's length.
 fn count_in(n: usize, given: &[u16], table: &mut [u16], inverse: &mut [u16]) -> usize
     requires { ⌜ n ≤ 6 ⌝ }
     requires { ⌜ Permutation 3 n (now given) ⌝ }
@@ -66,6 +67,7 @@ fn count_in(n: usize, given: &[u16], table: &mut [u16], inverse: &mut [u16]) -> 
     count_rows(n, table, inverse)
 }
 
+// The second pass, in lent arrays of the table's length.
 fn write_in(
     n: usize,
     given: &[u16],

@@ -5,7 +5,8 @@ ghost use Prim.Native.Nat.{_*_, _^_, _≤_, _<_};
 ghost use lib.ListN.{length};
 ghost use Rattle.synthesis.specs.Steps.{stepFrom, rowFrom, Paired, Reached, Lays};
 
-// Digit k of row i: where it differs from that of i, the entry with digit k of i is brought there. Says how many gates that takes.
+// Digit k of row i: where the entry has another digit than i, it changes places with the one that differs from it in that digit alone.
+// Says how many gates that takes.
 fn step(n: usize, i: usize, k: usize, table: &mut [u16], inverse: &mut [u16]) -> usize
     requires { ⌜ Paired n (now table) (now inverse) ⌝ }
     requires { ⌜ (i < 3 ^ n) × (k < n) ⌝ }
@@ -40,7 +41,8 @@ pub fn count_row(n: usize, i: usize, table: &mut [u16], inverse: &mut [u16]) -> 
     c
 }
 
-// Digit k of row i: where a gate is added, its record is the last before record `end`. Says where the records begin now.
+// Digit k of row i: where a gate is added, its record goes right before record `end`, since the last gate found is the first of the cascade.
+// Says where the records begin now.
 fn emit(n: usize, i: usize, k: usize, table: &[u16], room: &mut [u8], end: usize) -> usize
     requires { ⌜ (n ≤ 6) × (k < n) × (length (now table) ≡ 3 ^ n) × (i < 3 ^ n) ⌝ }
     requires { ⌜ length (stepFrom n i k (now table) .found) ≤ end ⌝ }

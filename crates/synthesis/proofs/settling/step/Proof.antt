@@ -2,22 +2,20 @@
 use denote.Ref.{now}
 use mathlib.Core.Path.{_≡_, refl, sym, _∙_}
 use mathlib.Core.List.{List}
-use Prim.Native.Nat.{ℕ, _^_, _≤_, _<_}
-use lib.ListN.{length, getD, length-set}
+use Prim.Native.Nat.{ℕ, _^_, _<_}
+use lib.ListN.{getD, length-set}
 use native.Mathlib.Omega.{arith}
 use Rattle.digits.specs.Digits.{digit}
 use Rattle.digits.proofs.Digits.{digit-lt}
 use Rattle.digits.proofs.Sizes.{three-pos}
-use Rattle.synthesis.proofs.Moves.{sized, new-lt, other-row, step-not, step-gate}
+use Rattle.synthesis.proofs.Moves.{Sized, sized, new-lt, other-row, step-not, step-gate}
 use borrow.Author.Needs.{needs}
 use Rattle.synthesis.proofs.settling.step.Statement.{statement}
 use Rattle.synthesis.proofs.settling.step.Tie as tie
 
 -- what is known of the numbers where a gate is added: a is the entry, b the one that is to stand there, y the row that has it
 record Facts (n i : ℕ) (t v : List ℕ) (a b y : ℕ) : Type 0 where
-  few : 3 ^ n ≤ 729
-  table : length t ≡ 3 ^ n
-  inverse : length v ≡ 3 ^ n
+  sizes : Sized n t v
   row : i < 3 ^ n
   old : a < 3 ^ n
   new : b < 3 ^ n
@@ -32,11 +30,8 @@ module _ (c : tie.After-with-digit) where
 
   facts : Facts (start .args .n) (start .args .i) (now (start .args .table)) (now (start .args .inverse)) (getD (now (start .args .table)) (start .args .i) 0) (c .with-digit .result) (getD (now (start .args .inverse)) (c .with-digit .result) 0)
   facts =
-      let s = sized _ _ _ (start .pre .0) in
       record {
-        few = s .few;
-        table = s .table;
-        inverse = s .inverse;
+        sizes = sized _ _ _ (start .pre .0);
         row = start .pre .1 .0;
         old = start .pre .0 .perm .within _ (start .pre .1 .0);
         new = new-lt _ _ _ _ _ _ _ _ _ (start .pre .0) (start .pre .1 .0) (start .pre .1 .1) refl (c .before .before .before .digit-of .ensures) (c .with-digit .ensures) refl differ;

@@ -6,7 +6,7 @@ use mathlib.Core.List.{List}
 use Prim.Native.Nat.{ℕ, _-_, _≤_}
 use borrow.Author.Needs.{needs}
 use native.Mathlib.Omega.{arith}
-use Rattle.synthesis.specs.Steps.{rowFrom, Reached, Lays}
+use Rattle.synthesis.specs.Steps.{stepFrom, rowFrom, Reached, Lays}
 use Rattle.synthesis.proofs.Moves.{same-sizes, row-none, row-found, row-room, row-more}
 use Rattle.synthesis.proofs.Layings.{lays-none, lays-more, lays-length}
 use Rattle.synthesis.proofs.settling.write_row.Statement.{statement}
@@ -65,7 +65,9 @@ loop-again c =
     record {
       within = omega (arith, turn c .loop-test .taken);
       at = row-more _ _ _ _ _ _ (g .at) _ _ (c .before .before .before .before .step .ensures .1);
-      laid = rw (row-found _ _ _ _ _ _ (g .at)) (lays-more _ _ _ _ _ _ _ _ (g .laid) (c .before .before .before .before .before .before .before .before .before .emit .ensures));
+      laid =
+          rw (row-found _ _ _ _ _ _ (g .at))
+          (lays-more _ (stepFrom (start c .args .n) (start c .args .i) (turn c .before .loop .k) (turn c .before .loop .table) .found) _ _ _ _ _ _ (g .laid) (c .before .before .before .before .before .before .before .before .before .emit .ensures));
     }
 
 same-length : tie.Need-same-length Inv-loop μ-loop
