@@ -8,3 +8,7 @@ pub mod Lists
 pub mod Stores
 pub mod Fills
 pub mod Blocks
+pub mod Changes
+pub mod Parts
+pub mod Tallies
+pub mod Triples

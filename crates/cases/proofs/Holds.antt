@@ -1,0 +1,23 @@
+-- P1 to P13 of document 01, its printed example and edges hold of the definitions: one statement over one list, computed. Assumes nothing.
+use mathlib.Core.Path.{_≡_, refl}
+use mathlib.Core.List.{map}
+use Rattle.ranges.specs.Ranges.{every, some, sum, first, span}
+use Rattle.ranges.specs.Lists.{total, through}
+use Rattle.digits.specs.Digits.{digit, put, pack}
+use Rattle.card.specs.Card.{refusing, linesOk, onLines, after, laid}
+use Rattle.gates.specs.Gates.{act, inverseOp, holds, firesOn, applied, inverse}
+use Rattle.gates.specs.Records.{lineOk, linesOkAt, packedAt, isRecord, gateAt, recordOf}
+use Rattle.tables.specs.Tables.{tooLarge, repeated, firstLarge, firstRepeated, tabled, checkTableAnswer}
+use Rattle.procedure.specs.Procedure.{adding, digitStep, rowSteps, rows, settled, cascadeFor}
+use Rattle.cascades.specs.Cascades.{gatesOf, bytesOf, tableOf}
+use Rattle.cascades.specs.Prices.{base, controlCount, others, gatePrice, cascadePrice}
+use Rattle.cascades.specs.Answers.{lengthOk, badRecord, firstBad, sound, priceAnswer}
+use Rattle.synthesis.specs.Synthesis.{exchanger, controlFor, gateFor, synthesized, bound, synthesizeAnswer}
+use Rattle.tidying.specs.Places.{isC, sameType, upsets, blocks, clashes, mayChange}
+use Rattle.tidying.specs.Rules.{sameLines, differAt, differences, lineOf, cancels, merges, reduces, fits, withControl, loosened, retuned}
+use Rattle.tidying.specs.Tidying.{isOpen, fitting, firstJ, firstI, without, ruled, untidy, step, tidiedIn, size, tidied, tidyAnswer, tidyBuffer}
+use Rattle.cases.specs.Cases.{Case, cases}
+
+pub all-hold : map (λ (c : Case). c .given) cases ≡ map (λ (c : Case). c .printed) cases
+unfolding every some sum first span total through digit put pack refusing linesOk onLines after act inverseOp holds firesOn applied inverse lineOk linesOkAt packedAt isRecord gateAt recordOf tooLarge repeated firstLarge firstRepeated tabled checkTableAnswer adding digitStep rowSteps rows settled cascadeFor gatesOf bytesOf tableOf base controlCount others gatePrice cascadePrice lengthOk badRecord firstBad sound priceAnswer exchanger controlFor gateFor synthesized bound synthesizeAnswer isC sameType upsets blocks clashes mayChange sameLines differAt differences lineOf cancels merges reduces fits withControl loosened retuned isOpen fitting firstJ firstI without ruled untidy step tidiedIn size tidied tidyAnswer tidyBuffer
+all-hold = refl

@@ -1,0 +1,1 @@
+// Tidying: the definitions and what they promise.
