@@ -1,0 +1,135 @@
+-- The choice between two cascades: what the prices of the two say of the whole answer, that two tables differ first where the cascades do, and what is
+-- handed back. It rests on the laws of 1, 6 and 7 of `cascades`. Assumes nothing.
+use mathlib.Core.Path.{_≡_, refl, sym, ap, _∙_, subst}
+use mathlib.Core.Bool.{Bool, true, false, cond, not}
+use mathlib.Core.List.{List, [], _∷_}
+use Prim.Native.Nat.{ℕ, zero, suc, _+_, _^_, _≤_, _<_}
+use native.Mathlib.Nat.{zero-add}
+use native.Mathlib.Omega.{arith}
+use lib.Dec.{eqb, ltb}
+use lib.ListN.{length, getD}
+use denote.Ref.{RefT, ptr, now}
+use borrow.Author.Tests.{lt-ltb, le-ltb}
+use Rattle.ranges.specs.Ranges.{first}
+use Rattle.ranges.proofs.Spans.{length-span, span-at}
+use Rattle.card.specs.Card.{Answer, Answer.accepted, Answer.refused, refusing, linesOk, onLines}
+use Rattle.card.proofs.Cards.{no-lines, good-lines, refusing-yes, refusing-no}
+use Rattle.gates.specs.declared.Gate.{Gate}
+use Rattle.cascades.specs.Cascades.{records, gatesOf, ran, tableOf, Whole}
+use Rattle.cascades.specs.Prices.{cascadePrice}
+use Rattle.cascades.specs.Answers.{sound, checkAnswer, priceAnswer}
+use Rattle.cascades.proofs.Answers.{passed, check-whole, check-refused}
+use Rattle.choice.specs.Choice.{firstDifference, firstUnlike, secondWins, chooseAnswer, Handed}
+
+-- ---- the first difference
+
+-- searches by tests that agree find the same
+first-ext : (f g : ℕ → Bool) (i m : ℕ) → ((k : ℕ) → i ≤ k → k < i + m → f k ≡ g k) → first f i m ≡ first g i m
+unfolding first
+first-ext f g i zero h = refl
+first-ext f g i (suc m) h = rw (h i (omega arith) (omega arith), first-ext f g (i + 1) m (λ k le lt. h k (omega arith) (omega arith)))
+
+entry : (n : ℕ) (gs : List Gate) (p : ℕ) → p < 3 ^ n → getD (tableOf n gs) p 0 ≡ ran gs p
+unfolding tableOf
+entry n gs p lt = rw (zero-add p) at (span-at (ran gs) 0 (3 ^ n) p 0 lt)
+
+-- two tables differ first where the gates do
+pub first-unlike : (n : ℕ) (gs hs : List Gate) → firstUnlike (tableOf n gs) (tableOf n hs) ≡ firstDifference n gs hs
+unfolding firstUnlike firstDifference
+first-unlike n gs hs =
+    rw (long)
+    (first-ext (λ p. not (eqb (getD (tableOf n gs) p 0) (getD (tableOf n hs) p 0))) (λ p. not (eqb (ran gs p) (ran hs p))) 0 (3 ^ n)
+    (λ p le lt. rw (entry n gs p (omega arith), entry n hs p (omega arith))))
+  where
+    long : length (tableOf n gs) ≡ 3 ^ n
+    long = unfold tableOf in length-span (ran gs) 0 (3 ^ n)
+
+-- ---- 1, 10, 6 and 7
+
+-- a cascade that was checked is let through
+sound-passed : (n : ℕ) (b : List ℕ) (m : ℕ) (x : Answer) → Whole n b m → sound n b x ≡ x
+sound-passed n b m x w = sym (good-lines n (sound n b x) (w .lines)) ∙ passed n b x m w
+
+module _ (n v : ℕ) (b : List ℕ) where
+  -- a price: lines, value and cascade are right
+  pub record Costs (vs : List ℕ) : Type 0 where
+    pub low : ltb 2 v ≡ false
+    pub whole : Whole n b (records b)
+    pub is : vs ≡ cascadePrice v (gatesOf b) ∷ []
+
+  -- what the answer of pricing says: a refusal is that of every call behind 1, 10, 6 and 7
+  abbrev pub Says : Answer → Type 0
+  Says (accepted vs) = Costs vs
+  Says (refused k p) = (x : Answer) → onLines n (refusing (ltb 2 v) 10 0 (sound n b x)) ≡ refused k p
+
+  pub price-says : (a : Answer) → priceAnswer n v b ≡ a → Says a
+  unfolding priceAnswer
+  price-says a e = subst Says e (go (linesOk n) (ltb 2 v) (checkAnswer n b) refl refl refl)
+    where
+      go : (s t : Bool) (c : Answer) → linesOk n ≡ s → ltb 2 v ≡ t → checkAnswer n b ≡ c
+          → Says (onLines n (refusing (ltb 2 v) 10 0 (sound n b (accepted (cascadePrice v (gatesOf b) ∷ [])))))
+      go false t c p q r = subst Says (sym (no-lines n _ p)) (λ x. no-lines n _ p)
+      go true true c p q r = subst Says (sym (good-lines n _ p ∙ refusing-yes (ltb 2 v) 10 0 _ q)) (λ x. good-lines n _ p ∙ refusing-yes (ltb 2 v) 10 0 _ q)
+      go true false (refused k m) p q r =
+          let behind : (x : Answer) → onLines n (refusing (ltb 2 v) 10 0 (sound n b x)) ≡ refused k m =
+          λ x. ap (onLines n) (refusing-no (ltb 2 v) 10 0 (sound n b x) q) ∙ check-refused n b k m x r in
+          subst Says (sym (behind (accepted (cascadePrice v (gatesOf b) ∷ [])))) behind
+      go true false (accepted vs) p q r =
+          let w = check-whole n b vs r in
+          subst Says (sym (ap (onLines n) (refusing-no (ltb 2 v) 10 0 _ q) ∙ passed n b _ _ w)) (record { low = q; whole = w; is = refl })
+
+module _ (n v : ℕ) (b c : List ℕ) where
+  -- the first is refused
+  pub choose-first : (k p : ℕ) → priceAnswer n v b ≡ refused k p → chooseAnswer n v b c ≡ refused k p
+  unfolding chooseAnswer
+  choose-first k p e = price-says n v b (refused k p) e _
+
+  -- the second is
+  pub choose-second : (vs : List ℕ) (k p : ℕ) → priceAnswer n v b ≡ accepted vs → priceAnswer n v c ≡ refused k p → chooseAnswer n v b c ≡ refused k p
+  unfolding chooseAnswer
+  choose-second vs k p e f =
+      ap (λ (a : Answer). onLines n (refusing (ltb 2 v) 10 0 a)) (sound-passed n b _ _ (price-says n v b (accepted vs) e .whole)) ∙ price-says n v c (refused k p) f _
+
+  -- neither is: 11 decides, and then cost and length
+  module _ (vs ws : List ℕ) (e : priceAnswer n v b ≡ accepted vs) (f : priceAnswer n v c ≡ accepted ws) where
+    let-through : (x : Answer) → onLines n (refusing (ltb 2 v) 10 0 (sound n b (sound n c x))) ≡ x
+    let-through x =
+        let one = price-says n v b (accepted vs) e in
+        good-lines n _ (one .whole .lines) ∙ refusing-no (ltb 2 v) 10 0 _ (one .low) ∙ sound-passed n b _ _ (one .whole)
+        ∙ sound-passed n c _ _ (price-says n v c (accepted ws) f .whole)
+
+    pub choose-differ : (d : ℕ) → d ≡ firstDifference n (gatesOf b) (gatesOf c) → d < 3 ^ n → chooseAnswer n v b c ≡ refused 11 d
+    unfolding chooseAnswer
+    choose-differ d q lt = let-through _ ∙ rw (← q) (refusing-yes (ltb d (3 ^ n)) 11 d _ (lt-ltb d (3 ^ n) lt))
+
+    pub choose-same : (d : ℕ) (t : Bool) → d ≡ firstDifference n (gatesOf b) (gatesOf c) → 3 ^ n ≤ d → secondWins v (gatesOf b) (gatesOf c) ≡ t
+        → chooseAnswer n v b c ≡ accepted (cond t 2 1 ∷ [])
+    unfolding chooseAnswer
+    choose-same d t q le w = let-through _ ∙ rw (← q, w) (refusing-no (ltb d (3 ^ n)) 11 d _ (le-ltb d (3 ^ n) le))
+
+-- ---- what is handed back
+
+module _ (a : Answer) (one two : RefT (List ℕ)) where
+  pub handed-first : a ≡ accepted (1 ∷ []) → Handed a one two one
+  handed-first e =
+      record {
+        the-first = λ f. refl;
+        the-second = λ f. let z : _≡_ {A = ℕ} 1 2 = cc in absurd (omega arith);
+        none = λ k p f. let z : _≡_ {A = ℕ} 0 1 = cc in absurd (omega arith);
+      }
+
+  pub handed-second : a ≡ accepted (2 ∷ []) → Handed a one two two
+  handed-second e =
+      record {
+        the-first = λ f. let z : _≡_ {A = ℕ} 1 2 = cc in absurd (omega arith);
+        the-second = λ f. refl;
+        none = λ k p f. let z : _≡_ {A = ℕ} 0 1 = cc in absurd (omega arith);
+      }
+
+  pub handed-none : (k p : ℕ) (r : RefT (List ℕ)) → a ≡ refused k p → ptr r ≡ ptr one → now r ≡ [] → Handed a one two r
+  handed-none k p r e f g =
+      record {
+        the-first = λ q. let z : _≡_ {A = ℕ} 0 1 = cc in absurd (omega arith);
+        the-second = λ q. let z : _≡_ {A = ℕ} 0 1 = cc in absurd (omega arith);
+        none = λ k′ p′ q. (f, g);
+      }

@@ -1,0 +1,118 @@
+-- `choice::choose` meets its contract: each return is a case of `chooseAnswer`. Assumes nothing.
+use mathlib.Core.Path.{_≡_, sym, ap, _∙_}
+use mathlib.Core.Bool.{Bool, true, false, cond, _&&_, _||_}
+use mathlib.Core.List.{List, [], _∷_}
+use Prim.Native.Nat.{ℕ, _/_}
+use borrow.Author.Tests.{le-ltb}
+use lib.Dec.{eqb, ltb}
+use lib.ListN.{length}
+use Rattle.card.specs.Card.{Answer.accepted}
+use Rattle.card.proofs.Cards.{lines-are}
+use Rattle.cascades.specs.Cascades.{gatesOf}
+use Rattle.cascades.specs.Prices.{cascadePrice}
+use Rattle.cascades.specs.Answers.{pricedAs, priceAnswer}
+use Rattle.cascades.proofs.Cascades.{gates-count}
+use Rattle.choice.specs.Choice.{secondWins, chooseAnswer}
+use Rattle.choice.proofs.Choices.{Costs, price-says, choose-first, choose-second, choose-differ, choose-same}
+use borrow.Author.Needs.{needs}
+use Rattle.choice.proofs.choose.Statement.{statement}
+use Rattle.choice.proofs.choose.Tie as tie
+
+-- the first has a price
+module _ (c : tie.After-known-told2) where
+  first-priced : priceAnswer (c .before .before .before .before .before .before .args .lines) (c .before .before .before .before .before .before .args .value) (c .before .before .before .before .before .before .args .first .now) ≡ accepted (c .before .one .given .0 .0 ∷ [])
+  first-priced = sym (c .before .before .before .price .ensures) ∙ ap pricedAs (c .before .one .given .1)
+
+-- so has the second
+module _ (c : tie.After-known-told4) where
+  second-priced : priceAnswer (c .before .before .before .before .before .before .before .before .before .before .args .lines) (c .before .before .before .before .before .before .before .before .before .before .args .value) (c .before .before .before .before .before .before .before .before .before .before .args .second .now) ≡ accepted (c .before .two .given .0 .0 ∷ [])
+  second-priced = sym (c .before .before .before .price2 .ensures) ∙ ap pricedAs (c .before .two .given .1)
+
+-- the test of `second_wins`, on the prices and counts of the two
+wins : (n v : ℕ) (b c : List ℕ) (x y : ℕ) (t : Bool) → Costs n v b (x ∷ []) → Costs n v c (y ∷ []) → t ≡ (ltb y x || eqb y x && ltb (length c / 8) (length b / 8)) → secondWins v (gatesOf b) (gatesOf c) ≡ t
+unfolding secondWins
+wins n v b c x y t p q e =
+    let f : x ≡ cascadePrice v (gatesOf b) = cc (p .is) in
+    let g : y ≡ cascadePrice v (gatesOf c) = cc (q .is) in
+    rw (gates-count b, gates-count c, ← f, ← g) (sym e)
+
+-- the tables are the same: cost and length decide
+module _ (c : tie.After-second-wins) where
+  decided : (t : Bool) → c .second-wins .result ≡ t
+      → accepted (cond t 2 1 ∷ [])
+      ≡ chooseAnswer (c .before .before .before .before .before .before .before .before .before .before .before .before .before .before .args .lines) (c .before .before .before .before .before .before .before .before .before .before .before .before .before .before .args .value) (c .before .before .before .before .before .before .before .before .before .before .before .before .before .before .args .first .now) (c .before .before .before .before .before .before .before .before .before .before .before .before .before .before .args .second .now)
+  decided t e =
+      let d = c .before .before .before .before in
+      let one = first-priced (d .before .before .before .before) in
+      let two = second-priced d in
+      sym (choose-same _ _ _ _ _ _ one two _ t (c .before .before .before .first-difference .ensures) (rw (c .before .before .power .ensures) at (c .before .if1 .left))
+      (wins _ _ _ _ _ _ t (price-says _ _ _ _ one) (price-says _ _ _ _ two) (sym e ∙ c .second-wins .ensures)))
+
+price-requires : tie.Need-price-requires
+price-requires c κs = search needs
+
+enum-known-number : tie.Need-enum-known-number
+enum-known-number c = search needs
+
+enum-known-one : tie.Need-enum-known-one
+enum-known-one c = search needs
+
+price-requires-2 : tie.Need-price-requires-2
+price-requires-2 c κs = search needs
+
+enum-known-number-2 : tie.Need-enum-known-number-2
+enum-known-number-2 c = search needs
+
+enum-known-two : tie.Need-enum-known-two
+enum-known-two c = search needs
+
+first-difference-requires : tie.Need-first-difference-requires
+first-difference-requires c κs = (price-says _ _ _ _ (first-priced (c .before .before .before .before)) .whole, price-says _ _ _ _ (second-priced c) .whole)
+
+power-requires : tie.Need-power-requires
+power-requires c κs = lines-are _ (price-says _ _ _ _ (second-priced (c .before)) .whole .lines) .1
+
+cast-if1 : tie.Need-cast-if1
+cast-if1 c = search needs
+
+returns : tie.Need-returns
+returns c =
+    let d = c .before .before .before in
+    sym (choose-differ _ _ _ _ _ _ (first-priced (d .before .before .before .before)) (second-priced d) _ (c .before .before .first-difference .ensures) (rw (c .before .power .ensures) at (c .if1 .taken)))
+
+second-wins-requires : tie.Need-second-wins-requires
+second-wins-requires c κs = search needs
+
+returns-2 : tie.Need-returns-2
+returns-2 c = sym (choose-first _ _ _ _ _ _ (sym (c .before .before .before .price .ensures) ∙ ap pricedAs (c .before .number .given .1)))
+
+returns-3 : tie.Need-returns-3
+returns-3 c =
+    let d = c .before .before .before in
+    sym (choose-second _ _ _ _ _ _ _ (first-priced (d .before)) (sym (d .price2 .ensures) ∙ ap pricedAs (c .before .number2 .given .1)))
+
+returns-4 : tie.Need-returns-4
+returns-4 c = decided (c .before) true (c .if2 .taken)
+
+returns-5 : tie.Need-returns-5
+returns-5 c = decided (c .before) false (c .if2 .left)
+
+pub choose-spec : {M : Type 1} → statement M
+choose-spec =
+    tie.close
+    (tie.spec
+    price-requires
+    enum-known-number
+    enum-known-one
+    price-requires-2
+    enum-known-number-2
+    enum-known-two
+    first-difference-requires
+    power-requires
+    cast-if1
+    returns
+    second-wins-requires
+    returns-2
+    returns-3
+    returns-4
+    returns-5)

@@ -1,0 +1,47 @@
+-- The cheaper of two cascades: which it is, and what is handed back.
+use Prim.Native.Nat.{ℕ, _^_}
+use mathlib.Core.Path.{_≡_}
+use mathlib.Core.Bool.{Bool, cond, not, _&&_, _||_}
+use mathlib.Core.List.{List, [], _∷_}
+use lib.Dec.{eqb, ltb}
+use lib.ListN.{length, getD}
+use denote.Ref.{RefT, ptr, now}
+use Rattle.ranges.specs.Ranges.{first}
+use Rattle.card.specs.Card.{Answer, Answer.accepted, Answer.refused, refusing, onLines}
+use Rattle.gates.specs.declared.Gate.{Gate}
+use Rattle.cascades.specs.Cascades.{gatesOf, ran}
+use Rattle.cascades.specs.Prices.{cascadePrice}
+use Rattle.cascades.specs.Answers.{sound}
+use Rattle.choice.specs.declared.Choice.{Choice}
+
+-- the document's number and values for each case: 1 the first, 2 the second
+abbrev pub choiceAs : Choice → Answer
+choiceAs Choice.First = accepted (1 ∷ [])
+choiceAs Choice.Second = accepted (2 ∷ [])
+choiceAs (Choice.Refused k p) = refused k p
+
+-- the first input of n lines on which two lists of gates differ, or 3 ^ n
+unfoldable pub firstDifference : ℕ → List Gate → List Gate → ℕ
+firstDifference n gs hs = first (λ p. not (eqb (ran gs p) (ran hs p))) 0 (3 ^ n)
+
+-- the same of two tables: the first index at which they differ, or the length
+unfoldable pub firstUnlike : List ℕ → List ℕ → ℕ
+firstUnlike xs ys = first (λ p. not (eqb (getD xs p 0) (getD ys p 0))) 0 (length xs)
+
+-- the second costs less, or the same with fewer gates
+unfoldable pub secondWins : ℕ → List Gate → List Gate → Bool
+secondWins v gs hs = ltb (cascadePrice v hs) (cascadePrice v gs) || eqb (cascadePrice v hs) (cascadePrice v gs) && ltb (length hs) (length gs)
+
+-- 1 10, 6 7 of the first, 6 7 of the second, 11
+unfoldable pub chooseAnswer : ℕ → ℕ → List ℕ → List ℕ → Answer
+chooseAnswer n v b c =
+    let gs = gatesOf b in
+    let hs = gatesOf c in
+    let d = firstDifference n gs hs in
+    onLines n (refusing (ltb 2 v) 10 0 (sound n b (sound n c (refusing (ltb d (3 ^ n)) 11 d (accepted (cond (secondWins v gs hs) 2 1 ∷ []))))))
+
+-- what is handed back for an answer: that lent cascade itself, or the empty part at the start of the first
+pub record Handed (a : Answer) (one two r : RefT (List ℕ)) : Type 0 where
+  pub the-first : a ≡ accepted (1 ∷ []) → r ≡ one
+  pub the-second : a ≡ accepted (2 ∷ []) → r ≡ two
+  pub none : (k p : ℕ) → a ≡ refused k p → (ptr r ≡ ptr one) × (now r ≡ [])

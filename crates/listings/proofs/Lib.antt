@@ -1,0 +1,4 @@
+pub mod Decimals
+pub mod Writes
+pub mod Layouts
+pub mod Lengths
