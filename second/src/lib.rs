@@ -22,12 +22,21 @@
 //! was. Inside, a number of lines that has been checked is a `Lines`, a record
 //! that has been checked is a `Gate`, a table a `Permutation`, bytes a `Cascade`:
 //! what has one of these types needs no second look.
+//!
+//! The other modules are for comparing this library with the first: [`calls`] has
+//! every call in one shape, [`vectors`] says how test cases are written and what
+//! they print, [`cases`](mod@cases) lists them, [`digests`] sums up many tables and
+//! cascades, and [`draws`] makes some of these up.
 
 #![forbid(unsafe_code)]
 
 pub mod answer;
+pub mod calls;
 pub mod cascade;
+pub mod cases;
 pub mod choice;
+pub mod digests;
+pub mod draws;
 pub mod file;
 pub mod gate;
 pub mod listing;
@@ -37,3 +46,4 @@ pub mod sheet;
 pub mod synthesis;
 pub mod table;
 pub mod tidying;
+pub mod vectors;

@@ -1,26 +1,39 @@
-//! `second sheet < tablefile` prints the listing of the table's cascade, or the
-//! refusal.
+//! The program. `second sheet < tablefile` prints the listing of the table's
+//! cascade, or the refusal. The other three are for comparing programs: `cases`
+//! writes test cases, `vectors` reads them and prints what each must answer, and
+//! `digests` prints sums over many tables and cascades.
 
 use std::io::{self, Read, Write};
 use std::process::ExitCode;
 
-use second::sheet;
+use second::{cases, digests, sheet, vectors};
 
 fn main() -> ExitCode {
     let arguments: Vec<_> = std::env::args_os().skip(1).collect();
-    match arguments.as_slice() {
-        [what] if what == "sheet" => match print_sheet() {
-            Ok(()) => ExitCode::SUCCESS,
-            Err(error) => {
-                eprintln!("second: {error}");
-                ExitCode::FAILURE
-            }
-        },
+    let printed = match arguments.as_slice() {
+        [what] if what == "sheet" => print_sheet(),
+        [what] if what == "cases" => print(&vectors::write_cases(&cases::cases())),
+        [what] if what == "vectors" => print_vectors(),
+        [what] if what == "digests" => print_digests(),
         _ => {
             eprintln!("use: second sheet < tablefile");
-            ExitCode::from(2)
+            eprintln!("     second cases > casefile");
+            eprintln!("     second vectors < casefile");
+            eprintln!("     second digests");
+            return ExitCode::from(2);
+        }
+    };
+    match printed {
+        Ok(()) => ExitCode::SUCCESS,
+        Err(error) => {
+            eprintln!("second: {error}");
+            ExitCode::FAILURE
         }
     }
+}
+
+fn print(bytes: &[u8]) -> io::Result<()> {
+    io::stdout().lock().write_all(bytes)
 }
 
 fn print_sheet() -> io::Result<()> {
@@ -28,5 +41,21 @@ fn print_sheet() -> io::Result<()> {
     // A byte more than any good file has shows a file that is too long, however
     // much would follow.
     io::stdin().lock().take(sheet::LONGEST_TABLE_FILE as u64 + 1).read_to_end(&mut file)?;
-    io::stdout().lock().write_all(&sheet::text(&file))
+    print(&sheet::text(&file))
+}
+
+fn print_vectors() -> io::Result<()> {
+    let mut file = Vec::new();
+    io::stdin().lock().read_to_end(&mut file)?;
+    let Some(cases) = vectors::read_cases(&file) else {
+        return Err(io::Error::other("these are no cases"));
+    };
+    print(vectors::lines(&cases).as_bytes())
+}
+
+fn print_digests() -> io::Result<()> {
+    match digests::report() {
+        Ok(text) => print(text.as_bytes()),
+        Err(refusal) => Err(io::Error::other(format!("{refusal:?}"))),
+    }
 }

@@ -9,7 +9,7 @@ ghost use Rattle.cascades.specs.Cascades.{gatesOf, ran};
 ghost use Rattle.cascades.specs.Prices.{cascadePrice};
 ghost use Rattle.cascades.specs.Answers.{countedAs, ranAs, tabulatedAs, pricedAs, sound, checkAnswer, runAnswer, tabulateAnswer, tabulateRoom, invertAnswer, invertRoom, priceAnswer};
 
-mod lengths;
+pub mod lengths;
 mod prices;
 mod undo;
 pub mod whole;

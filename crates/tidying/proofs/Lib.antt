@@ -4,3 +4,7 @@ pub mod Weights
 pub mod Steps
 pub mod Endings
 pub mod Promises
+pub mod Removals
+pub mod Buffers
+pub mod Rows
+pub mod Repetitions

@@ -225,11 +225,11 @@ module _ (g h : Gate) (r : Reduction g h) where
   unfolding retuned inverse
   retuned-other k ne = with-other h (lineOf g h) (third g h) (omega (arith, third-lt)) k ne
 
-  loosened-gate : (n : ℕ) → IsGate n g → IsGate n (loosened g h)
+  pub loosened-gate : (n : ℕ) → IsGate n g → IsGate n (loosened g h)
   unfolding loosened
   loosened-gate n ok = with-gate g (lineOf g h) 3 (omega arith) n ok (r .on) (λ e. refl)
 
-  retuned-gate : (n : ℕ) → IsGate n h → IsGate n (retuned g h)
+  pub retuned-gate : (n : ℕ) → IsGate n h → IsGate n (retuned g h)
   unfolding retuned
   retuned-gate n ok =
       inverse-gate n (withControl h (lineOf g h) (third g h))

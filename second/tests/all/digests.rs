@@ -1,6 +1,7 @@
 //! Figures over all 362,880 two-line tables, from an outside computation.
 
 use second::cascade::{price, run, tabulate};
+use second::digests::report;
 use second::synthesis::synthesize;
 use second::tidying::tidy;
 
@@ -82,4 +83,40 @@ fn all_two_line_tables() {
     assert_eq!(mean(cost_tidied[1]), "20.954508");
     assert_eq!(mean(cost_tidied[0]), "22.192108");
     println!("steps {steps}, cost {cost:?}, tidied {cost_tidied:?}");
+}
+
+/// The report's first family is the same walk.
+#[test]
+fn the_report_says_so_too() {
+    let report = report().unwrap();
+    let first = "\
+tables 2
+count 362880
+gates 3236976
+cost at 0 8612208
+cost at 1 7794000
+cost at 2 6252624
+tidied gates 3209872
+tidied cost at 0 8053072
+tidied cost at 1 7603972
+tidied cost at 2 5904668
+steps 240400
+changed 188142
+most gates 14
+with most gates 1024
+records ";
+    assert!(report.starts_with(first));
+
+    let values = |name: &str| -> Vec<String> {
+        let of = |line: &str| line.strip_prefix(name)?.strip_prefix(' ').map(String::from);
+        report.lines().filter_map(of).collect()
+    };
+    assert_eq!(values("tables"), ["2", "3", "4", "5", "6"]);
+    assert_eq!(values("cascades"), ["3", "4", "5", "6"]);
+    assert_eq!(values("dense"), ["3", "4", "5", "6"]);
+    assert_eq!(report.lines().count(), 13 * 19);
+    // Tidying keeps every table, and finds something in each family.
+    assert_eq!(values("computed"), values("kept"));
+    assert_eq!(values("steps").len(), 13);
+    assert!(values("steps").iter().all(|steps| steps != "0"));
 }

@@ -22,3 +22,4 @@ mod published;
 mod refusals;
 mod synthesis;
 mod tidying;
+mod vectors;

@@ -3,6 +3,9 @@
 use std::io::Write;
 use std::process::{Command, Output, Stdio};
 
+use second::cases::cases;
+use second::vectors::{lines, write_cases};
+
 use crate::helpers::Numbers;
 
 fn program(arguments: &[&str], input: &[u8]) -> Output {
@@ -39,8 +42,23 @@ fn it_prints_what_the_library_says() {
 }
 
 #[test]
+fn it_writes_cases_and_prints_their_lines() {
+    let file = program(&["cases"], &[]);
+    assert!(file.status.success());
+    assert_eq!(file.stdout, write_cases(&cases()));
+    let printed = program(&["vectors"], &file.stdout);
+    assert!(printed.status.success());
+    assert_eq!(printed.stdout, lines(&cases()).into_bytes());
+
+    let refused = program(&["vectors"], &file.stdout[1..]);
+    assert_eq!(refused.status.code(), Some(1));
+    assert!(refused.stdout.is_empty());
+    assert_eq!(refused.stderr, b"second: these are no cases\n");
+}
+
+#[test]
 fn it_says_how_it_is_used() {
-    for arguments in [&[][..], &["table"], &["sheet", "more"]] {
+    for arguments in [&[][..], &["table"], &["sheet", "more"], &["cases", "vectors"]] {
         let output = program(arguments, &[]);
         assert_eq!(output.status.code(), Some(2));
         assert!(output.stdout.is_empty());

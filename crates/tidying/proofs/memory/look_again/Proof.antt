@@ -1,0 +1,68 @@
+-- `tidying::memory::look_again` meets its contract: the row does not reach p, or its pair with the new gate is looked at. Assumes nothing.
+use mathlib.Core.Path.{_≡_, sym, ap, _∙_}
+use mathlib.Core.Bool.{true, false}
+use Prim.Native.Nat.{ℕ, _<_, _≤_}
+use native.Mathlib.Omega.{arith}
+use lib.ListN.{length}
+use Rattle.card.proofs.Cards.{lines-are}
+use Rattle.gates.specs.declared.Gate.{Gate}
+use Rattle.tidying.specs.Places.{mayChange}
+use Rattle.tidying.specs.Rules.{fits}
+use Rattle.tidying.specs.Tidying.{gate}
+use Rattle.tidying.specs.Buffers.{gatesIn}
+use Rattle.tidying.proofs.Buffers.{length-gates, gate-in, holds-fits, holds-gate, holds-record}
+use Rattle.tidying.proofs.Rows.{again-near, again-quiet, again-cut}
+use borrow.Author.Needs.{needs}
+use Rattle.tidying.proofs.memory.look_again.Statement.{statement}
+use Rattle.tidying.proofs.memory.look_again.Tie as tie
+
+module _ (c : tie.Else1) where
+  inside : c .before .before .args .r < length (gatesIn (c .before .before .args .b .now) (c .before .before .args .m))
+  inside = rw (length-gates (c .before .before .args .b .now) (c .before .before .args .m)) (omega arith)
+
+  p-inside : c .before .before .args .p < length (gatesIn (c .before .before .args .b .now) (c .before .before .args .m))
+  p-inside = rw (length-gates (c .before .before .args .b .now) (c .before .before .args .m)) (c .before .before .pre .1 .1)
+
+module _ (c : tie.After-read-gate) where
+  row-gate : c .read-gate .result ≡ gate (gatesIn (c .before .before .before .args .b .now) (c .before .before .before .args .m)) (c .before .before .before .args .r)
+  row-gate = c .read-gate .ensures ∙ sym (gate-in (c .before .before .before .args .b .now) (c .before .before .before .args .m) (c .before .before .before .args .r) (omega arith))
+
+returns : tie.Need-returns
+returns c =
+    again-near _ _ _ _ _ (rw (length-gates (c .before .before .args .b .now) (c .before .before .args .m)) (c .before .before .pre .1 .1)) (c .before .before .pre .1 .0) (c .before .before .pre .1 .3) (c .if1 .taken)
+
+read-gate-requires : tie.Need-read-gate-requires
+read-gate-requires c κs = (c .before .before .pre .0 .lines, holds-record _ _ _ (c .before .before .pre .0) _ (inside c), holds-fits _ _ _ (c .before .before .pre .0) _ (inside c))
+
+fits-pair-requires : tie.Need-fits-pair-requires
+fits-pair-requires c κs = search needs
+
+returns-2 : tie.Need-returns-2
+returns-2 c = again-cut _ _ _ _ _ (p-inside (c .before .before .before)) (c .before .before .before .before .before .pre .1 .0) (c .before .before .before .before .before .pre .1 .3) (c .before .before .before .if1 .left)
+
+may-change-requires : tie.Need-may-change-requires
+may-change-requires c κs =
+    let six = lines-are _ (c .before .before .before .before .before .pre .0 .lines) .1 in
+    let ok = holds-gate _ _ _ (c .before .before .before .before .before .pre .0) _ (inside (c .before .before .before)) in
+    (rw (row-gate (c .before .before)) (omega (arith, ok .on-line)), c .before .before .before .before .before .pre .1 .2)
+
+returns-3 : tie.Need-returns-3
+returns-3 c =
+    again-quiet _ _ _ _ _ (p-inside (c .before .before .before .before .before)) (c .before .before .before .before .before .before .before .pre .1 .0) (c .before .before .before .before .before .before .before .pre .1 .3)
+    (ap (λ (x : Gate). fits x (c .before .before .before .before .before .before .before .args .g)) (sym (row-gate (c .before .before .before .before))) ∙ sym (c .before .before .before .fits-pair .ensures) ∙ c .before .before .if2 .left)
+    (ap (λ (x : Gate). mayChange x (c .before .before .before .before .before .before .before .args .g)) (sym (row-gate (c .before .before .before .before))) ∙ sym (c .before .may-change .ensures) ∙ c .if3 .taken)
+
+returns-4 : tie.Need-returns-4
+returns-4 c = again-cut _ _ _ _ _ (p-inside (c .before .before .before .before .before)) (c .before .before .before .before .before .before .before .pre .1 .0) (c .before .before .before .before .before .before .before .pre .1 .3) (c .before .before .before .before .before .if1 .left)
+
+pub look-again-spec : {M : Type 1} → statement M
+look-again-spec =
+    tie.close
+    (tie.spec
+    returns
+    read-gate-requires
+    fits-pair-requires
+    returns-2
+    may-change-requires
+    returns-3
+    returns-4)

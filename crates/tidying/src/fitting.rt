@@ -1,0 +1,108 @@
+// The rules on two gates: which fits, and what control reduction makes of each.
+ghost use mathlib.Core.Path.{_≡_};
+ghost use mathlib.Core.Bool.{true};
+ghost use Prim.Native.Nat.{_^_, _<_};
+ghost use Rattle.gates.specs.Gates.{inverse};
+ghost use Rattle.tidying.specs.Rules.{sameLines, cancels, merges, reduces, fits, loosened, retuned};
+use gates::Gate;
+
+// Equal target, and equal set of control lines.
+fn same_lines(g: Gate, h: Gate) -> bool
+    ensures { λ r. ⌜ r ≡ sameLines g h ⌝ }
+{
+    if g.target != h.target {
+        return false;
+    }
+    super::controls::same_set(g.controls, h.controls)
+}
+
+// Equal control values, and the operators invert each other.
+pub fn cancels_pair(g: Gate, h: Gate) -> bool
+    ensures { λ r. ⌜ r ≡ cancels g h ⌝ }
+{
+    if !same_lines(g, h) {
+        return false;
+    }
+    if super::controls::count_differences(g.controls, h.controls) != 0 {
+        return false;
+    }
+    h.operator == gates::invert_op(g.operator)
+}
+
+// Equal control values, both C1 or both C2.
+pub fn merges_pair(g: Gate, h: Gate) -> bool
+    ensures { λ r. ⌜ r ≡ merges g h ⌝ }
+{
+    if !same_lines(g, h) {
+        return false;
+    }
+    if super::controls::count_differences(g.controls, h.controls) != 0 {
+        return false;
+    }
+    if !super::passing::is_c(g.operator) {
+        return false;
+    }
+    g.operator == h.operator
+}
+
+// A rule fits: the lines are compared once for all three.
+pub fn fits_pair(g: Gate, h: Gate) -> bool
+    ensures { λ r. ⌜ r ≡ fits g h ⌝ }
+{
+    if !same_lines(g, h) {
+        return false;
+    }
+    let apart = super::controls::count_differences(g.controls, h.controls);
+    if apart == 0 {
+        if h.operator == gates::invert_op(g.operator) {
+            return true;
+        }
+        if !super::passing::is_c(g.operator) {
+            return false;
+        }
+        return g.operator == h.operator;
+    }
+    if apart != 1 {
+        return false;
+    }
+    g.operator == h.operator
+}
+
+// The gate with the inverse operator.
+pub fn invert(h: Gate) -> Gate
+    ensures { λ r. ⌜ r ≡ inverse h ⌝ }
+{
+    Gate {
+        operator: gates::invert_op(h.operator),
+        target: h.target,
+        controls: h.controls,
+    }
+}
+
+// Gate i after control reduction: it loses the line on which the two differ.
+pub fn loosen(g: Gate, h: Gate) -> Gate
+    requires { ⌜ (reduces g h ≡ true) × (g .controls < 4 ^ 6) ⌝ }
+    ensures { λ r. ⌜ r ≡ loosened g h ⌝ }
+{
+    let k = super::controls::find_difference(g.controls, h.controls);
+    Gate {
+        operator: g.operator,
+        target: g.target,
+        controls: super::controls::with_control(g.controls, k, 3),
+    }
+}
+
+// Gate j after control reduction: the third value there, and a C inverted.
+pub fn retune(g: Gate, h: Gate) -> Gate
+    requires { ⌜ (reduces g h ≡ true) × (h .controls < 4 ^ 6) ⌝ }
+    ensures { λ r. ⌜ r ≡ retuned g h ⌝ }
+{
+    let k = super::controls::find_difference(g.controls, h.controls);
+    let s = super::controls::control_on(g.controls, k);
+    let t = super::controls::control_on(h.controls, k);
+    Gate {
+        operator: gates::invert_op(h.operator),
+        target: h.target,
+        controls: super::controls::with_control(h.controls, k, 3 - s - t),
+    }
+}
