@@ -1,0 +1,92 @@
+-- The two round trips of cascade files. `read-written`: reading what was written gives the lines, the records and the note. `written-read`: writing
+-- what was read from an accepted file gives that file, byte for byte. They rest on the laws of frames. Assumes nothing.
+use mathlib.Core.Path.{_≡_, refl, sym, _∙_}
+use mathlib.Core.List.{List, [], _∷_}
+use Prim.Native.Nat.{ℕ, _*_, _/_, _≤_}
+use native.Mathlib.Omega.{arith}
+use lib.ListN.{length, take, drop}
+use lib.Seq.{take-at}
+use Rattle.card.specs.Card.{Answer, Answer.accepted, after, laid}
+use Rattle.card.proofs.Cards.{accepted-both}
+use Rattle.cascades.specs.Cascades.{records, Whole}
+use Rattle.files.specs.Files.{fileOf, fileSize, writeAnswer, writeRoom, count, linesIn, startOf, noteOf, recordsOf, readAnswer, readRecords, readNote}
+use Rattle.files.proofs.Numbers.{Bytes}
+use Rattle.files.proofs.Frames.{Right, length-file, file-lines, file-count, file-start, file-note, file-records, file-right, file-again, length-note, length-records, records-count, parts-end, trailer-fits}
+use Rattle.files.proofs.Answers.{read-says, read-accepted, write-says, write-accepted}
+
+-- the start of a room is what was laid there
+front : (k : ℕ) (xs room : List ℕ) → length xs ≡ k → take k (laid xs room) ≡ xs
+unfolding laid
+front k xs room e = take-at xs (drop (length xs) room) k e
+
+-- what an accepted call leaves
+left : (a : Answer) (vs new old : List ℕ) → a ≡ accepted vs → after a new old ≡ new
+left a vs new old e = sym (accepted-both a vs new old new e refl .1)
+
+-- reading the file f into two rooms gives the cascade b on n lines and the note back
+pub record GivesBack (n : ℕ) (b note f room noteRoom : List ℕ) : Type 0 where
+  pub answer : readAnswer f (length room) (length noteRoom) ≡ accepted (n ∷ records b ∷ length note ∷ [])
+  pub the-records : readRecords f room noteRoom ≡ laid b room
+  pub the-note : readNote f room noteRoom ≡ laid note noteRoom
+
+-- writing a cascade and a note into a room gives the file f
+pub record GivesFile (n : ℕ) (b note f room : List ℕ) : Type 0 where
+  pub answer : writeAnswer n b note (length room) ≡ accepted (length f ∷ [])
+  pub the-file : writeRoom n b note room ≡ laid f room
+
+-- the bytes that were written
+written : (n : ℕ) (b note room : List ℕ) (vs : List ℕ) → writeAnswer n b note (length room) ≡ accepted vs → take (fileSize note b) (writeRoom n b note room) ≡ fileOf n note b
+unfolding writeRoom
+written n b note room vs e = rw (left _ vs (laid (fileOf n note b) room) room e) (front (fileSize note b) (fileOf n note b) room (length-file n note b))
+
+read-file-of : (n : ℕ) (b note room noteRoom : List ℕ) → Whole n b (records b) → length note ≤ 1024 → records b ≤ length room / 8 → length note ≤ length noteRoom
+    → GivesBack n b note (fileOf n note b) room noteRoom
+unfolding readRecords readNote
+read-file-of n b note room noteRoom w short fits fits′ =
+    let f : List ℕ = fileOf n note b in
+    let r = file-right n note b w short in
+    let lines = file-lines n note b in
+    let many = file-count n note b w in
+    let start = file-start n note b w in
+    let bytes = file-records n note b w in
+    let whole : Whole (linesIn (fileOf n note b)) (recordsOf (fileOf n note b)) (count (fileOf n note b)) = rw (lines, bytes, many) w in
+    let answer = read-accepted (fileOf n note b) room noteRoom r whole (rw many fits) (rw start fits′) in
+    record {
+      answer = answer ∙ rw (lines, many, start);
+      the-records = left _ _ (laid (recordsOf (fileOf n note b)) room) room answer ∙ rw bytes;
+      the-note = left _ _ (laid (noteOf (fileOf n note b)) noteRoom) noteRoom answer ∙ rw (file-note n note b w);
+    }
+
+-- reading what was written
+pub read-written : (n : ℕ) (b note room : List ℕ) (s : ℕ) → writeAnswer n b note (length room) ≡ accepted (s ∷ [])
+    → (recordRoom noteRoom : List ℕ) → records b ≤ length recordRoom / 8 → length note ≤ length noteRoom
+    → GivesBack n b note (take s (writeRoom n b note room)) recordRoom noteRoom
+read-written n b note room s e recordRoom noteRoom fits fits′ =
+    let w = write-says n b note (length room) (accepted (s ∷ [])) e in
+    let size : s ≡ fileSize note b = cc (w .is) in
+    rw (size, written n b note room (s ∷ []) e) (read-file-of n b note recordRoom noteRoom (w .whole) (w .short) fits fits′)
+
+write-file-of : (f room : List ℕ) → Bytes f → Right f → Whole (linesIn f) (recordsOf f) (count f) → length f ≤ length room → GivesFile (linesIn f) (recordsOf f) (noteOf f) f room
+unfolding writeRoom fileSize
+write-file-of f room bytes r w fits =
+    let size : fileSize (noteOf f) (recordsOf f) ≡ length f = omega (arith, length-note f r, length-records f r, parts-end f r, trailer-fits f r) in
+    let answer = write-accepted (linesIn f) (recordsOf f) (noteOf f) (length room) (rw (records-count f r) w) (rw (length-note f r) (r .short-note)) (rw size fits) in
+    record {
+      answer = answer ∙ rw size;
+      the-file = left _ _ (laid (fileOf (linesIn f) (noteOf f) (recordsOf f)) room) room answer ∙ rw (file-again f r bytes);
+    }
+
+-- writing what was read
+pub written-read : (f recordRoom noteRoom : List ℕ) (n m k : ℕ) → Bytes f → readAnswer f (length recordRoom) (length noteRoom) ≡ accepted (n ∷ m ∷ k ∷ [])
+    → (room : List ℕ) → length f ≤ length room
+    → GivesFile n (take (8 * m) (readRecords f recordRoom noteRoom)) (take k (readNote f recordRoom noteRoom)) f room
+unfolding readRecords readNote
+written-read f recordRoom noteRoom n m k bytes e room fits =
+    let g = read-says f recordRoom noteRoom (accepted (n ∷ m ∷ k ∷ [])) e in
+    let r = g .opens .framed-right in
+    let en : n ≡ linesIn f = cc (g .is) in
+    let em : m ≡ count f = cc (g .is) in
+    let ek : k ≡ startOf f = cc (g .is) in
+    let long : length (recordsOf f) ≡ 8 * m = length-records f r ∙ r .eight ∙ rw em in
+    rw (left _ _ (laid (recordsOf f) recordRoom) recordRoom e, left _ _ (laid (noteOf f) noteRoom) noteRoom e, front (8 * m) (recordsOf f) recordRoom long, front k (noteOf f) noteRoom (length-note f r ∙ sym ek), en)
+    (write-file-of f room bytes r (g .opens .whole) fits)

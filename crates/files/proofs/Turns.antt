@@ -1,0 +1,127 @@
+-- What a reader hands out: at one place, case by case, and then turn after turn. `reader-gates`: over a file that opens, the gates of its records in
+-- order, and then the end for ever. Assumes nothing.
+use mathlib.Core.Path.{_≡_, refl, sym, ap, _∙_}
+use mathlib.Core.Bool.{true, false}
+use mathlib.Core.List.{List, [], _∷_, _++_, map}
+use Prim.Native.Nat.{ℕ, zero, suc, _+_, _*_, _≤_, _<_}
+use native.Mathlib.Nat.{add-zero, zero-add, suc-add, add-assoc}
+use native.Mathlib.Omega.{arith}
+use lib.Dec.{leb}
+use lib.ListN.{length, getD, drop, replicate}
+use lib.Seq.{getD-take, getD-drop}
+use borrow.Author.Tests.{leb-true, le-leb, lt-leb}
+use Rattle.ranges.specs.Ranges.{span}
+use Rattle.ranges.proofs.Bools.{and-right, and-both}
+use Rattle.ranges.proofs.Tests.{every-ext}
+use Rattle.card.specs.Card.{linesOk, Answer.accepted}
+use Rattle.gates.specs.declared.Record.{Record}
+use Rattle.gates.specs.Records.{lineOk, linesOkAt, isRecord, gateAt, decoded}
+use Rattle.gates.proofs.Records.{reads, record-lines, gate-ext, decoded-is, gives, gives-no}
+use Rattle.cascades.specs.Cascades.{gatesOf, Whole}
+use Rattle.cascades.proofs.Cascades.{gateOf}
+use Rattle.files.specs.declared.Given.{Given}
+use Rattle.files.specs.Files.{trailerAt, distance, count, linesIn, startOf, recordsOf}
+use Rattle.files.specs.Readers.{openingAnswer, recordStands, asGiven, givenAt, placeAfter, turnAt, handed}
+use Rattle.files.proofs.Frames.{Right, parts-end, trailer-fits, records-count}
+use Rattle.files.proofs.Answers.{opening-says}
+
+pub record-fits : (f : List ℕ) (at end : ℕ) → recordStands f at end ≡ true → at + 8 ≤ length f
+unfolding recordStands
+record-fits f at end e = leb-true (at + 8) (length f) (and-right (leb (at + 8) end) (leb (at + 8) (length f)) e)
+
+module _ (f : List ℕ) (n at end : ℕ) where
+  turn-of : (g : Given) → givenAt f n at end ≡ g → turnAt f n at end ≡ record { given = g; at = placeAfter g at }
+  unfolding turnAt
+  turn-of g e = rw e
+
+  pub turn-lines : linesOk n ≡ false → turnAt f n at end ≡ record { given = Given.Refused 1 0; at = at }
+  unfolding givenAt placeAfter
+  turn-lines e = turn-of (Given.Refused 1 0) (rw e)
+
+  module _ (six : linesOk n ≡ true) where
+    pub turn-end : recordStands f at end ≡ false → turnAt f n at end ≡ record { given = Given.End; at = at }
+    unfolding givenAt placeAfter
+    turn-end e = turn-of Given.End (rw (six, e))
+
+    module _ (stands : recordStands f at end ≡ true) where
+      pub turn-not : (k p : ℕ) → decoded n f at ≡ Record.Refused k p → turnAt f n at end ≡ record { given = Given.Refused 7 at; at = at }
+      unfolding givenAt placeAfter
+      turn-not k p e = turn-of (Given.Refused 7 at) (rw (six, stands, gives-no n f at k p six e))
+
+      pub turn-gate : (o t c : ℕ) → decoded n f at ≡ Record.Gate o t c → turnAt f n at end ≡ record { given = Given.Gate o t c; at = at + 8 }
+      unfolding givenAt placeAfter
+      turn-gate o t c e = let h = gives n f at o t c e in turn-of (Given.Gate o t c) (rw (six, stands, h .is, h .value))
+
+    pub turn-hands : recordStands f at end ≡ true → isRecord n f at ≡ true → turnAt f n at end ≡ record { given = asGiven (gateAt f at); at = at + 8 }
+    turn-hands stands is = turn-gate stands _ _ _ (decoded-is n f at six is)
+
+-- ---- a record in a part of a file
+
+-- the bytes alone decide whether they are a record
+record-moved : (n : ℕ) (b b′ : List ℕ) (at at′ : ℕ) → ((k : ℕ) → k < 8 → getD b (at + k) 0 ≡ getD b′ (at′ + k) 0) → at′ + 8 ≤ length b′
+    → isRecord n b at ≡ true → isRecord n b′ at′ ≡ true
+unfolding linesOkAt
+record-moved n b b′ at at′ h fits e =
+    let r = reads n b at e in
+    let o : getD b at 0 ≡ getD b′ at′ 0 = simp add-zero at (h 0 (omega arith)) in
+    let t : getD b (at + 1) 0 ≡ getD b′ (at′ + 1) 0 = h 1 (omega arith) in
+    record-lines n b′ at′ fits (omega (arith, r .op-low)) (omega (arith, r .op-high)) (omega (arith, r .on-line))
+    ∙ rw (← t)
+    (sym (every-ext (λ k. lineOk n (getD b (at + 1) 0) k (getD b (at + 2 + k) 0)) (λ k. lineOk n (getD b (at + 1) 0) k (getD b′ (at′ + 2 + k) 0)) 0 6
+    (λ k le lt. ap (lineOk n (getD b (at + 1) 0) k) (rw (add-assoc at 2 k, add-assoc at′ 2 k) (h (2 + k) (omega arith)))))
+    ∙ r .lines)
+
+module _ (f : List ℕ) (r : Right f) (w : Whole (linesIn f) (recordsOf f) (count f)) where
+  -- the bytes of record i
+  same-bytes : (i : ℕ) → i < count f → (k : ℕ) → k < 8 → getD (recordsOf f) (8 * i + k) 0 ≡ getD f (startOf f + 8 * i + k) 0
+  unfolding recordsOf
+  same-bytes i li k lk =
+      getD-take (distance f) (drop (startOf f) f) (8 * i + k) 0 (omega (arith, r .eight)) ∙ getD-drop (startOf f) f (8 * i + k) 0
+      ∙ ap (λ (x : ℕ). getD f x 0) (sym (add-assoc (startOf f) (8 * i) k))
+
+  fits : (i : ℕ) → i < count f → startOf f + 8 * i + 8 ≤ trailerAt f
+  fits i li = omega (arith, parts-end f r, r .eight)
+
+  -- the turn at record i
+  turn-at : (i : ℕ) → i < count f → turnAt f (linesIn f) (startOf f + 8 * i) (trailerAt f) ≡ record { given = asGiven (gateOf (recordsOf f) i); at = startOf f + 8 * (i + 1) }
+  unfolding recordStands
+  turn-at i li =
+      let inside : startOf f + 8 * i + 8 ≤ length f = omega (arith, fits i li, trailer-fits f r) in
+      let is = record-moved (linesIn f) (recordsOf f) f (8 * i) (startOf f + 8 * i) (same-bytes i li) inside (w .each i li) in
+      let g : gateAt (recordsOf f) (8 * i) ≡ gateAt f (startOf f + 8 * i) = gate-ext (recordsOf f) f (8 * i) (startOf f + 8 * i) (same-bytes i li) in
+      let next : startOf f + 8 * i + 8 ≡ startOf f + 8 * (i + 1) = omega arith in
+      turn-hands f (linesIn f) (startOf f + 8 * i) (trailerAt f) (w .lines)
+      (and-both (leb (startOf f + 8 * i + 8) (trailerAt f)) (leb (startOf f + 8 * i + 8) (length f)) (le-leb (startOf f + 8 * i + 8) (trailerAt f) (fits i li)) (le-leb (startOf f + 8 * i + 8) (length f) inside)) is
+      ∙ rw (g, next)
+
+  -- the turn at the end
+  turn-last : turnAt f (linesIn f) (trailerAt f) (trailerAt f) ≡ record { given = Given.End; at = trailerAt f }
+  unfolding recordStands
+  turn-last = turn-end f (linesIn f) (trailerAt f) (trailerAt f) (w .lines) (rw (lt-leb (trailerAt f + 8) (trailerAt f) (omega arith)))
+
+  end-stays : (k : ℕ) → handed f (linesIn f) (trailerAt f) (trailerAt f) k ≡ replicate k Given.End
+  unfolding handed
+  end-stays zero = refl
+  end-stays (suc k) = rw (turn-last, end-stays k)
+
+  hands-on : (m i k : ℕ) → i + m ≡ count f
+      → handed f (linesIn f) (startOf f + 8 * i) (trailerAt f) (m + k) ≡ map asGiven (span (gateOf (recordsOf f)) i m) ++ replicate k Given.End
+  unfolding handed span
+  hands-on zero i k e =
+      let last : startOf f + 8 * i ≡ trailerAt f = omega (arith, parts-end f r, r .eight) in
+      rw (zero-add k, last) (end-stays k)
+  hands-on (suc m) i k e =
+      rw (suc-add m k, turn-at i (omega arith)) (ap (λ (l : List Given). asGiven (gateOf (recordsOf f) i) ∷ l) (hands-on m (i + 1) k (omega arith)))
+
+-- over a file that opens: its gates, and then the end
+pub reader-gates : (f : List ℕ) (n at end : ℕ) → openingAnswer f ≡ accepted (n ∷ at ∷ end ∷ []) → (k : ℕ)
+    → handed f n at end (count f + k) ≡ map asGiven (gatesOf (recordsOf f)) ++ replicate k Given.End
+unfolding gatesOf
+reader-gates f n at end e k =
+    let o = opening-says f (accepted (n ∷ at ∷ end ∷ [])) e in
+    let r = o .framed-right in
+    let en : n ≡ linesIn f = cc (o .is) in
+    let start : at ≡ startOf f = cc (o .is) in
+    let ea : at ≡ startOf f + 8 * 0 = omega arith in
+    let ee : end ≡ trailerAt f = cc (o .is) in
+    rw (en, ea, ee, records-count f r) (hands-on f r (o .whole) (count f) 0 k (zero-add (count f)))

@@ -1,0 +1,89 @@
+-- The reader: what opening a file gives, what the reader hands out at a place, and how it moves.
+use Prim.Native.Nat.{ℕ, zero, suc, _+_}
+use mathlib.Core.Path.{_≡_}
+use mathlib.Core.Bool.{Bool, cond, _&&_}
+use mathlib.Core.List.{List, [], _∷_}
+use lib.Dec.{leb}
+use lib.ListN.{length, getD}
+use denote.Ref.{RefT, ptr, now}
+use Rattle.card.specs.Card.{Answer, Answer.accepted, Answer.refused, values, linesOk}
+use Rattle.gates.specs.Records.{isRecord, gateAt}
+use Rattle.gates.specs.declared.Gate.{Gate}
+use Rattle.files.specs.Files.{framed, linesIn, startOf, trailerAt}
+use Rattle.files.specs.declared.Extent.{Extent}
+use Rattle.files.specs.declared.Given.{Given}
+use Rattle.files.specs.declared.Turn.{Turn}
+use Rattle.files.specs.declared.Reader.{Reader}
+use Rattle.files.specs.declared.held.Bounds.{Bounds}
+
+-- ---- the document's number and values for each case of an answer
+
+abbrev pub openingAs : Extent → Answer
+openingAs (Extent.Frame n at end) = accepted (n ∷ at ∷ end ∷ [])
+openingAs (Extent.Refused k p) = refused k p
+
+-- 1 and the gate's operator, target and packed controls; 0 at the end
+abbrev pub givenAs : Given → Answer
+givenAs (Given.Gate o t c) = accepted (1 ∷ o ∷ t ∷ c ∷ [])
+givenAs Given.End = accepted (0 ∷ [])
+givenAs (Given.Refused k p) = refused k p
+
+-- ---- opening: 9 1 6 7, and else the lines, the place of the first record and the offset where the records end
+
+unfoldable pub openingAnswer : List ℕ → Answer
+openingAnswer f = framed f (accepted (linesIn f ∷ startOf f ∷ trailerAt f ∷ []))
+
+-- ---- the next gate of a reader at place at, on n lines, whose records end at end
+
+-- a whole record stands from place at on before that offset and the file's end
+unfoldable pub recordStands : List ℕ → ℕ → ℕ → Bool
+recordStands f at end = leb (at + 8) end && leb (at + 8) (length f)
+
+abbrev pub asGiven : Gate → Given
+asGiven g = Given.Gate (g .operator) (g .target) (g .controls)
+
+-- 1; the end; 7 with the place; else the gate
+unfoldable pub givenAt : List ℕ → ℕ → ℕ → ℕ → Given
+givenAt f n at end =
+    cond (linesOk n) (cond (recordStands f at end) (cond (isRecord n f at) (asGiven (gateAt f at)) (Given.Refused 7 at)) Given.End) (Given.Refused 1 0)
+
+-- the place afterwards: behind the gate that was handed out, and else the same
+unfoldable pub placeAfter : Given → ℕ → ℕ
+placeAfter (Given.Gate o t c) at = at + 8
+placeAfter Given.End at = at
+placeAfter (Given.Refused k p) at = at
+
+unfoldable pub turnAt : List ℕ → ℕ → ℕ → ℕ → Turn
+turnAt f n at end = record { given = givenAt f n at end; at = placeAfter (givenAt f n at end) at }
+
+-- what k turns hand out, one after the other, each from the place that the one before it left
+unfoldable pub handed : List ℕ → ℕ → ℕ → ℕ → ℕ → List Given
+handed f n at end zero = []
+handed f n at end (suc k) = turnAt f n at end .given ∷ handed f n (turnAt f n at end .at) end k
+
+-- ---- the reader that keeps hold of the file
+
+-- its turn, and the reader at another place
+abbrev pub turnOf : Reader → Turn
+turnOf r = turnAt (now (r .file)) (r .lines) (r .at) (r .end)
+
+abbrev pub movedTo : Reader → ℕ → Reader
+movedTo r at = record { file = r .file; end = r .end; at = at; lines = r .lines }
+
+-- the reader that opening the file f gives: over f itself, or, refused, all 0 over the empty part at its start
+pub record Opened (f : RefT (List ℕ)) (r : Reader) : Type 0 where
+  pub found : (vs : List ℕ) → openingAnswer (now f) ≡ accepted vs → (r .file ≡ f) × ((r .lines ∷ r .at ∷ r .end ∷ []) ≡ vs)
+  pub none : (k p : ℕ) → openingAnswer (now f) ≡ refused k p
+      → (ptr (r .file) ≡ ptr f) × (now (r .file) ≡ []) × ((r .lines ∷ r .at ∷ r .end ∷ []) ≡ 0 ∷ 0 ∷ 0 ∷ [])
+
+-- its numbers by the answer of opening, and the part that goes with the lines
+unfoldable pub boundsOf : Answer → Bounds
+boundsOf a = record { end = getD (values a) 2 0; at = getD (values a) 1 0; lines = getD (values a) 0 0 }
+
+pub record HeldPart (n : ℕ) (f r : RefT (List ℕ)) : Type 0 where
+  pub itself : (n ≡ 0 → ⊥) → r ≡ f
+  pub none : n ≡ 0 → (ptr r ≡ ptr f) × (now r ≡ [])
+
+-- what its first turn hands out: without lines, where opening refused, that is refusal 1
+unfoldable pub firstGiven : List ℕ → Given
+firstGiven f = let b = boundsOf (openingAnswer f) in givenAt f (b .lines) (b .at) (b .end)

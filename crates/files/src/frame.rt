@@ -1,0 +1,102 @@
+// The frame of a file: its trailer's numbers, whether they are right, and the gates that it points back to.
+ghost use mathlib.Core.Path.{_≡_};
+ghost use mathlib.Core.List.{_∷_, []};
+ghost use Prim.Native.Nat.{_+_, _^_, _≤_, _<_};
+ghost use lib.Dec.{leb};
+ghost use lib.ListN.{length};
+ghost use Rattle.card.specs.Card.{onLines, Answer.accepted};
+ghost use Rattle.cascades.specs.Answers.{sound};
+ghost use Rattle.files.specs.Files.{numberAt, frameOk};
+ghost use Rattle.files.specs.Readers.{openingAs, recordStands};
+use crate::Extent;
+use gates::Record;
+
+// The number that the k bytes from a place on write down, low byte first.
+pub fn number_at(k: usize, file: &[u8], at: usize) -> usize
+    requires { ⌜ (k ≤ 4) × (at + k ≤ length (now file)) ⌝ }
+    ensures { λ r. ⌜ (r ≡ numberAt k (now (file .entry)) at) × (r < 256 ^ k) ⌝ }
+{
+    let mut x: usize = 0;
+    let mut w: usize = 1;
+    let mut i: usize = 0;
+    while i < k {
+        let byte = file[at + i] as usize;
+        x = x + byte * w;
+        w = w * 256;
+        i = i + 1;
+    }
+    x
+}
+
+// The frame is right: refusal 9 otherwise.
+pub fn frame_ok(file: &[u8]) -> bool
+    ensures { λ r. ⌜ r ≡ frameOk (now (file .entry)) ⌝ }
+{
+    if file.len() < 8 {
+        return false;
+    }
+    let end = file.len() - 8;
+    if file[end + 7] != 1 {
+        return false;
+    }
+    let distance = number_at(4, file, end);
+    if distance != 8 * number_at(2, file, end + 4) {
+        return false;
+    }
+    if end < distance {
+        return false;
+    }
+    end - distance <= 1024
+}
+
+// The records between two places of a file are gates: refusals 1, 6, 7.
+pub fn gates_between(lines: u8, records: &[u8], at: usize, end: usize) -> Extent
+    ensures { λ r. ⌜ openingAs r ≡ onLines lines (sound lines (now (records .entry)) (accepted (lines ∷ at ∷ end ∷ []))) ⌝ }
+{
+    if !card::lines_ok(lines) {
+        return Extent::Refused {
+            number: 1,
+            place: 0,
+        };
+    }
+    if !cascades::lengths::length_ok(records.len()) {
+        return Extent::Refused {
+            number: 6,
+            place: 0,
+        };
+    }
+    let count = records.len() / 8;
+    let mut i: usize = 0;
+    while i < count {
+        let Record::Gate {
+            operator: _,
+            target: _,
+            controls: _,
+        } = gates::decode(lines, records, 8 * i)
+        else {
+            return Extent::Refused {
+                number: 7,
+                place: i,
+            };
+        };
+        i = i + 1;
+    }
+    Extent::Frame { lines, at, end }
+}
+
+// The 8 bytes from a place on end at an offset or before it. The sum is not made: it might wrap around.
+fn ends_by(at: usize, end: usize) -> bool
+    ensures { λ r. ⌜ r ≡ leb (at + 8) end ⌝ }
+{
+    if end < 8 {
+        return false;
+    }
+    at <= end - 8
+}
+
+// A whole record stands from a place on before an offset and the file's end.
+pub fn record_stands(file: &[u8], at: usize, end: usize) -> bool
+    ensures { λ r. ⌜ r ≡ recordStands (now (file .entry)) at end ⌝ }
+{
+    ends_by(at, end) && ends_by(at, file.len())
+}

@@ -1,0 +1,86 @@
+-- `sheets::refusals::write_refusal` meets its contract: two labelled numbers and the newline, one behind the other. Assumes nothing.
+use mathlib.Core.Path.{_≡_}
+use mathlib.Core.List.{List, [], _∷_, _++_}
+use Prim.Native.Nat.{ℕ, _+_, _≤_}
+use native.Mathlib.Nat.{zero-add}
+use lib.ListN.{length, length-set}
+use native.Mathlib.Omega.{arith}
+use Rattle.listings.specs.Texts.{ascii, decimal}
+use Rattle.listings.proofs.Writes.{Writing, written-byte, writing-start, writing-next, writing-last, left-fits, piece-fits, first-fits}
+use Rattle.sheets.specs.Sheets.{sheetText}
+use Rattle.sheets.proofs.Answers.{refusal-parts}
+use borrow.Author.Needs.{needs}
+use Rattle.sheets.proofs.refusals.write_refusal.Statement.{statement}
+use Rattle.sheets.proofs.refusals.write_refusal.Tie as tie
+
+-- what is left behind the number, and at the start
+abbrev fromPlace : ℕ → List ℕ
+fromPlace p = (ascii " at " ++ decimal p) ++ (10 ∷ [])
+
+abbrev line : ℕ → ℕ → List ℕ
+line k p = (ascii "refused " ++ decimal k) ++ fromPlace p
+
+module _ (c : tie.Start) where
+  text : sheetText (c .args .file .now) ≡ line (c .args .number) (c .args .place)
+  text = refusal-parts (c .args .file .now) (c .args .number) (c .args .place) (c .pre .0)
+
+  fits : 0 + length (line (c .args .number) (c .args .place)) ≤ length (c .args .room .now)
+  fits = rw zero-add (rw text at (c .pre .1))
+
+module _ (c : tie.After-write-labelled) where
+  numbered : (let a = c .before .before .before .before .before .args in
+      Writing (a .room .now) 0 (line (a .number) (a .place)) (c .write-labelled .last .1 .1 .0) (c .write-labelled .result) (fromPlace (a .place)))
+  numbered = writing-next (writing-start _ _ _) (c .write-labelled .ensures)
+
+module _ (c : tie.After-write-labelled2) where
+  done : (let a = c .before .before .before .before .before .before .before .before .before .before .args in
+      Writing (a .room .now) 0 (line (a .number) (a .place)) (c .write-labelled2 .last .1 .1 .0) (c .write-labelled2 .result) (10 ∷ []))
+  done = writing-next (numbered (c .before .before .before .before .before)) (c .write-labelled2 .ensures)
+
+  room-left : c .write-labelled2 .result + 1 ≤ length (c .write-labelled2 .last .1 .1 .0)
+  room-left = left-fits done (fits (c .before .before .before .before .before .before .before .before .before .before))
+
+slice-aggregate-write-labelled : tie.Need-slice-aggregate-write-labelled
+slice-aggregate-write-labelled c = search needs
+
+write-labelled-requires : tie.Need-write-labelled-requires
+write-labelled-requires c κs =
+    let start = c .before .before .before .before in
+    let a = start .args in
+    first-fits (a .room .now) 0 (ascii "refused " ++ decimal (a .number)) (fromPlace (a .place)) (fits start)
+
+slice-aggregate-write-labelled-2 : tie.Need-slice-aggregate-write-labelled-2
+slice-aggregate-write-labelled-2 c = search needs
+
+write-labelled-requires-2 : tie.Need-write-labelled-requires-2
+write-labelled-requires-2 c κs =
+    let d = c .before .before .before .before in
+    let start = d .before .before .before .before .before in
+    piece-fits (ascii " at " ++ decimal (start .args .place)) (10 ∷ []) (numbered d) (fits start)
+
+slice-write-room : tie.Need-slice-write-room
+slice-write-room c = omega (arith, room-left (c .before .before))
+
+add-result : tie.Need-add-result
+add-result c = omega (arith, room-left (c .before .before))
+
+same-length : tie.Need-same-length
+same-length c = simp length-set (done (c .before .before) .long)
+
+returns : tie.Need-returns
+returns c =
+    let start = c .before .before .before .before .before .before .before .before .before .before .before .before in
+    rw (text start) (writing-last (done (c .before .before)) (written-byte _ _ _))
+
+pub write-refusal-spec : {M : Type 1} → statement M
+write-refusal-spec =
+    tie.close
+    (tie.spec
+    slice-aggregate-write-labelled
+    write-labelled-requires
+    slice-aggregate-write-labelled-2
+    write-labelled-requires-2
+    slice-write-room
+    add-result
+    same-length
+    returns)

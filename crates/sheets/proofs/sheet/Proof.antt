@@ -1,0 +1,92 @@
+-- `sheets::sheet` meets its contract: 1 by the first byte, 2 by the length, and else what is told of the entries. Assumes nothing.
+use mathlib.Core.Path.{_≡_, sym, _∙_}
+use mathlib.Core.Bool.{true}
+use borrow.Author.Tests.{not-true, not-false}
+use Rattle.card.specs.Card.{linesOk}
+use Rattle.card.proofs.Cards.{lines-are}
+use Rattle.sheets.proofs.Answers.{file-lines, file-broken}
+use borrow.Author.Needs.{needs}
+use Rattle.sheets.proofs.sheet.Statement.{statement}
+use Rattle.sheets.proofs.sheet.Tie as tie
+
+module _ (c : tie.Else1) where
+  six : linesOk (c .before .before .lines-of .result) ≡ true
+  six = sym (c .before .lines-ok .ensures) ∙ not-false _ (c .if1 .left)
+
+lines-of-requires : tie.Need-lines-of-requires
+lines-of-requires c κs = search needs
+
+lines-ok-requires : tie.Need-lines-ok-requires
+lines-ok-requires c κs = search needs
+
+refuse-requires : tie.Need-refuse-requires
+refuse-requires c κs =
+    let d = c .before .before in
+    file-lines _ (rw (d .before .lines-of .ensures) at (sym (d .lines-ok .ensures) ∙ not-true _ (c .before .if1 .taken)))
+
+same-length : tie.Need-same-length
+same-length c = search needs
+
+returns : tie.Need-returns
+returns c = search needs
+
+cast-power : tie.Need-cast-power
+cast-power c = search needs
+
+power-requires : tie.Need-power-requires
+power-requires c κs = lines-are _ (six c) .1
+
+cast-size : tie.Need-cast-size
+cast-size c = search needs
+
+mul-if2 : tie.Need-mul-if2
+mul-if2 c = search needs
+
+add-if2 : tie.Need-add-if2
+add-if2 c = search needs
+
+refuse-requires-2 : tie.Need-refuse-requires-2
+refuse-requires-2 c κs =
+    let d = c .before .before .before in
+    let n = d .before .before .lines-of .ensures in
+    let p = rw n at (c .before .before .power .ensures) in
+    file-broken _ (rw n at (six d)) (rw p at (c .before .if2 .taken))
+
+same-length-2 : tie.Need-same-length-2
+same-length-2 c = search needs
+
+returns-2 : tie.Need-returns-2
+returns-2 c = search needs
+
+with-table-requires : tie.Need-with-table-requires
+with-table-requires c κs =
+    let d = c .before .before .before in
+    let p = c .before .before .power .ensures in
+    (six d, d .before .before .lines-of .ensures, rw p at (c .before .if2 .left), p)
+
+same-length-3 : tie.Need-same-length-3
+same-length-3 c = search needs
+
+returns-3 : tie.Need-returns-3
+returns-3 c = search needs
+
+pub sheet-spec : {M : Type 1} → statement M
+sheet-spec =
+    tie.close
+    (tie.spec
+    lines-of-requires
+    lines-ok-requires
+    refuse-requires
+    same-length
+    returns
+    cast-power
+    power-requires
+    cast-size
+    mul-if2
+    add-if2
+    refuse-requires-2
+    same-length-2
+    returns-2
+    with-table-requires
+    same-length-3
+    returns-3)

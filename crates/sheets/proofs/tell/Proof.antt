@@ -1,0 +1,122 @@
+-- `sheets::tell` meets its contract: what synthesis refuses the file is refused, and what it makes is listed. Assumes nothing.
+use mathlib.Core.Path.{_≡_, sym, ap, _∙_}
+use mathlib.Core.List.{List}
+use Prim.Native.Nat.{ℕ, _*_, _/_, _≤_}
+use lib.ListN.{length, take}
+use lib.Seq.{length-take-le, take-at}
+use native.Mathlib.Omega.{arith}
+use Rattle.card.specs.Card.{laid}
+use Rattle.card.proofs.Cards.{lines-are}
+use Rattle.tables.specs.Permutations.{Permutation}
+use Rattle.gates.specs.declared.Gate.{Gate}
+use Rattle.cascades.specs.Cascades.{bytesOf}
+use Rattle.cascades.specs.Answers.{countedAs}
+use Rattle.cascades.proofs.Stored.{length-bytes}
+use Rattle.synthesis.specs.Synthesis.{synthesized, bound}
+use Rattle.synthesis.proofs.Synthesis.{bound-most, synthesized-bound}
+use Rattle.sheets.proofs.Answers.{made-refused, made-permutation, made-count, made-room, told-listing, told-room}
+use borrow.Author.Needs.{needs}
+use Rattle.sheets.proofs.tell.Statement.{statement}
+use Rattle.sheets.proofs.tell.Tie as tie
+
+module _ (c : tie.Start) where
+  wide : bound (c .args .lines) ≤ length (c .args .cascade .now) / 8
+  wide = omega (arith, bound-most (c .args .lines) (lines-are _ (c .pre .0 .lines) .1), c .pre .1)
+
+-- what synthesis has made
+module _ (c : tie.After-known-told2) where
+  abbrev start : tie.Start
+  start = c .before .before .before .before .before .before .before .before .before .before .before
+
+  abbrev gates : List Gate
+  gates = synthesized (start .args .lines) (start .args .table .now)
+
+  perm : Permutation 3 (start .args .lines) (start .args .table .now)
+  perm = made-permutation _ _ _ (start .pre .0) _ (wide start) _ (ap countedAs (sym (c .before .m .given .1)) ∙ c .before .before .before .before .before .synthesize .ensures .0)
+
+  count : c .before .m .given .0 .0 ≡ length gates
+  count = made-count _ _ _ (start .pre .0) _ (wide start) _ (ap countedAs (sym (c .before .m .given .1)) ∙ c .before .before .before .before .before .synthesize .ensures .0)
+
+  few : c .before .m .given .0 .0 ≤ 4010
+  few =
+      let six = lines-are _ (start .pre .0 .lines) .1 in
+      omega (arith, count, synthesized-bound (start .args .lines) (start .args .table .now) six perm, bound-most (start .args .lines) six)
+
+  long : length (c .before .before .before .before .before .synthesize .last .1 .1 .0) ≡ 8 * 4010
+  long = c .before .before .before .before .before .synthesize .kept .1 .1 .0 ∙ start .pre .1
+
+  -- the records stand at the start of the cascade's room
+  front : take (8 * c .before .m .given .0 .0) (c .before .before .before .before .before .synthesize .last .1 .1 .0) ≡ bytesOf gates
+  unfolding laid
+  front =
+      ap (take (8 * c .before .m .given .0 .0))
+      (c .before .before .before .before .before .synthesize .ensures .1 ∙ made-room _ _ _ (start .pre .0) perm (start .args .cascade .now) (wide start))
+      ∙ take-at (bytesOf gates) _ _ (length-bytes gates ∙ ap (λ (m : ℕ). 8 * m) (sym count))
+
+synthesize-requires : tie.Need-synthesize-requires
+synthesize-requires c κs = search needs
+
+enum-known-number : tie.Need-enum-known-number
+enum-known-number c = search needs
+
+refuse-requires : tie.Need-refuse-requires
+refuse-requires c κs =
+    let d = c .before .before .before .before .before .before in
+    let start = d .before .before .before .before .before .before in
+    made-refused _ _ _ (start .pre .0) _ (wide start) _ _ (ap countedAs (sym (c .before .before .number .given .1)) ∙ d .synthesize .ensures .0)
+
+enum-known-m : tie.Need-enum-known-m
+enum-known-m c = search needs
+
+mul-listing : tie.Need-mul-listing
+mul-listing c = omega (arith, few c)
+
+slice-reshare-prefix-listing : tie.Need-slice-reshare-prefix-listing
+slice-reshare-prefix-listing c = omega (arith, few c, long c)
+
+slice-aggregate-listing : tie.Need-slice-aggregate-listing
+slice-aggregate-listing c = sym (length-take-le _ _ (omega (arith, few (c .before), long (c .before))))
+
+listing-requires : tie.Need-listing-requires
+listing-requires c κs = search needs
+
+same-length : tie.Need-same-length
+same-length c = search needs
+
+same-length-2 : tie.Need-same-length-2
+same-length-2 c = search needs
+
+returns : tie.Need-returns
+returns c = search needs
+
+same-length-3 : tie.Need-same-length-3
+same-length-3 c = search needs
+
+same-length-4 : tie.Need-same-length-4
+same-length-4 c = search needs
+
+returns-2 : tie.Need-returns-2
+returns-2 c =
+    let d = c .before .before .before .before .before in
+    let h = start d .pre .0 in
+    let e = c .before .before .listing .ensures in
+    ((rw (front d) at (e .0)) ∙ told-listing _ _ _ h (perm d) _, (rw (front d) at (e .1)) ∙ told-room _ _ _ h (perm d) _)
+
+pub tell-spec : {M : Type 1} → statement M
+tell-spec =
+    tie.close
+    (tie.spec
+    synthesize-requires
+    enum-known-number
+    refuse-requires
+    enum-known-m
+    mul-listing
+    slice-reshare-prefix-listing
+    slice-aggregate-listing
+    listing-requires
+    same-length
+    same-length-2
+    returns
+    same-length-3
+    same-length-4
+    returns-2)

@@ -1,0 +1,72 @@
+// The program's text for a table file.
+ghost use mathlib.Core.Path.{_≡_};
+ghost use mathlib.Core.Bool.{true};
+ghost use Prim.Native.Nat.{_+_, _*_, _^_};
+ghost use lib.ListN.{length};
+ghost use Rattle.card.specs.Card.{linesOk};
+ghost use Rattle.listings.specs.Listings.{listedAs};
+ghost use Rattle.sheets.specs.Sheets.{linesOf, sheetAnswer, sheetRoom, Holds};
+
+mod entries;
+mod refusals;
+
+use cascades::Counted;
+use listings::Listed;
+
+// The listing of the table's cascade, or the line of its refusal. The cascade's room has 4,010 records, enough for six lines.
+fn tell(lines: u8, file: &[u8], table: &[u16], cascade: &mut [u8], room: &mut [u8]) -> Listed
+    requires { ⌜ (Holds (now file) lines (now table)) × (length (now cascade) ≡ 8 * 4010) ⌝ }
+    ensures { λ r. ⌜ listedAs r ≡ sheetAnswer (now (file .entry)) (length (now (room .entry))) ⌝ }
+    ensures { λ r. ⌜ now (room .exit) ≡ sheetRoom (now (file .entry)) (now (room .entry)) ⌝ }
+{
+    match synthesis::synthesize(lines, table, cascade) {
+        Counted::Refused { number, place } => refusals::refuse(file, number, place, room),
+        Counted::Gates(m) => listings::listing(lines, &cascade[..8 * m], room),
+    }
+}
+
+// The same, with a cascade's room of its own.
+fn with_cascade(lines: u8, file: &[u8], table: &[u16], room: &mut [u8]) -> Listed
+    requires { ⌜ Holds (now file) lines (now table) ⌝ }
+    ensures { λ r. ⌜ listedAs r ≡ sheetAnswer (now (file .entry)) (length (now (room .entry))) ⌝ }
+    ensures { λ r. ⌜ now (room .exit) ≡ sheetRoom (now (file .entry)) (now (room .entry)) ⌝ }
+{
+    let mut cascade = [0u8; 32080];
+    tell(lines, file, table, &mut cascade, room)
+}
+
+// The same, for the file's entries, read into a lent table.
+fn with_entries(lines: u8, file: &[u8], table: &mut [u16], room: &mut [u8]) -> Listed
+    requires { ⌜ (linesOk lines ≡ true) × (lines ≡ linesOf (now file)) × (length (now file) ≡ 1 + 2 * 3 ^ lines) × (length (now table) ≡ 3 ^ lines) ⌝ }
+    ensures { λ r. ⌜ listedAs r ≡ sheetAnswer (now (file .entry)) (length (now (room .entry))) ⌝ }
+    ensures { λ r. ⌜ now (room .exit) ≡ sheetRoom (now (file .entry)) (now (room .entry)) ⌝ }
+{
+    entries::read_entries(file, table);
+    with_cascade(lines, file, table, room)
+}
+
+// The same, with a table of its own.
+fn with_table(lines: u8, file: &[u8], size: usize, room: &mut [u8]) -> Listed
+    requires { ⌜ (linesOk lines ≡ true) × (lines ≡ linesOf (now file)) × (length (now file) ≡ 1 + 2 * 3 ^ lines) × (size ≡ 3 ^ lines) ⌝ }
+    ensures { λ r. ⌜ listedAs r ≡ sheetAnswer (now (file .entry)) (length (now (room .entry))) ⌝ }
+    ensures { λ r. ⌜ now (room .exit) ≡ sheetRoom (now (file .entry)) (now (room .entry)) ⌝ }
+{
+    let mut table = [0u16; 729];
+    with_entries(lines, file, &mut table[..size], room)
+}
+
+// The text for a table file's bytes, into a room for bytes: the listing, or the line of refusal 1, 2, 3 or 4. Its own refusal is 5.
+pub fn sheet(file: &[u8], room: &mut [u8]) -> Listed
+    ensures { λ r. ⌜ listedAs r ≡ sheetAnswer (now (file .entry)) (length (now (room .entry))) ⌝ }
+    ensures { λ r. ⌜ now (room .exit) ≡ sheetRoom (now (file .entry)) (now (room .entry)) ⌝ }
+{
+    let lines = entries::lines_of(file);
+    if !card::lines_ok(lines) {
+        return refusals::refuse(file, 1, 0, room);
+    }
+    let size = digits::power(lines as usize) as usize;
+    if file.len() != 1 + 2 * size {
+        return refusals::refuse(file, 2, 0, room);
+    }
+    with_table(lines, file, size, room)
+}
