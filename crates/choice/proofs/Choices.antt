@@ -1,5 +1,5 @@
--- The choice between two cascades: what the prices of the two say of the whole answer, that two tables differ first where the cascades do, and what is
--- handed back. It rests on the laws of 1, 6 and 7 of `cascades`. Assumes nothing.
+-- The choice between two cascades: two tables differ first where the cascades do, and 11 is given exactly where the tables are not the same; what the
+-- prices of the two say of the whole answer; and what is handed back. It rests on the laws of 1, 6 and 7 of `cascades`. Assumes nothing.
 use mathlib.Core.Path.{_≡_, refl, sym, ap, _∙_, subst}
 use mathlib.Core.Bool.{Bool, true, false, cond, not}
 use mathlib.Core.List.{List, [], _∷_}
@@ -9,9 +9,10 @@ use native.Mathlib.Omega.{arith}
 use lib.Dec.{eqb, ltb}
 use lib.ListN.{length, getD}
 use denote.Ref.{RefT, ptr, now}
-use borrow.Author.Tests.{lt-ltb, le-ltb}
+use borrow.Author.Tests.{lt-ltb, le-ltb, eqb-true, eqb-false, not-true, not-false}
 use Rattle.ranges.specs.Ranges.{first}
-use Rattle.ranges.proofs.Spans.{length-span, span-at}
+use Rattle.ranges.proofs.Searches.{Found, found}
+use Rattle.ranges.proofs.Spans.{length-span, span-at, span-ext}
 use Rattle.card.specs.Card.{Answer, Answer.accepted, Answer.refused, refusing, linesOk, onLines}
 use Rattle.card.proofs.Cards.{no-lines, good-lines, refusing-yes, refusing-no}
 use Rattle.gates.specs.declared.Gate.{Gate}
@@ -43,6 +44,23 @@ first-unlike n gs hs =
   where
     long : length (tableOf n gs) ≡ 3 ^ n
     long = unfold tableOf in length-span (ran gs) 0 (3 ^ n)
+
+-- and there is such an input exactly where the tables are not the same
+module _ (n : ℕ) (gs hs : List Gate) where
+  searched : Found (λ p. not (eqb (ran gs p) (ran hs p))) 0 (3 ^ n) (firstDifference n gs hs)
+  unfolding firstDifference
+  searched = rw (zero-add (3 ^ n)) at (found (λ p. not (eqb (ran gs p) (ran hs p))) 0 (3 ^ n))
+
+  pub same-tables : 3 ^ n ≤ firstDifference n gs hs → tableOf n gs ≡ tableOf n hs
+  unfolding tableOf
+  same-tables le =
+      span-ext (ran gs) (ran hs) 0 (3 ^ n)
+      (λ p from lt. eqb-true (ran gs p) (ran hs p) (not-false (eqb (ran gs p) (ran hs p)) (searched .before p from (omega arith))))
+
+  pub other-tables : firstDifference n gs hs < 3 ^ n → tableOf n gs ≡ tableOf n hs → ⊥
+  other-tables lt e =
+      eqb-false (ran gs (firstDifference n gs hs)) (ran hs (firstDifference n gs hs)) (not-true (eqb (ran gs (firstDifference n gs hs)) (ran hs (firstDifference n gs hs))) (searched .hit lt))
+      (sym (entry n gs (firstDifference n gs hs) lt) ∙ rw e (entry n hs (firstDifference n gs hs) lt))
 
 -- ---- 1, 10, 6 and 7
 

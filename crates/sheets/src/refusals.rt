@@ -1,4 +1,4 @@
-// The line of a refusal.
+// The line of a refusal. The file itself is not read here: the contracts name its text by it.
 ghost use mathlib.Core.Path.{_≡_};
 ghost use Prim.Native.Nat.{_≤_};
 ghost use lib.ListN.{length};

@@ -3,7 +3,6 @@ use mathlib.Core.Path.{_≡_, sym, ap, _∙_}
 use mathlib.Core.Bool.{Bool, true, false, cond, _&&_, _||_}
 use mathlib.Core.List.{List, [], _∷_}
 use Prim.Native.Nat.{ℕ, _/_}
-use borrow.Author.Tests.{le-ltb}
 use lib.Dec.{eqb, ltb}
 use lib.ListN.{length}
 use Rattle.card.specs.Card.{Answer.accepted}

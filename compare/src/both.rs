@@ -1,0 +1,140 @@
+//! One input through both libraries: the answers and every lent byte compared.
+
+use std::fmt;
+
+use second::calls::{Given, Told};
+
+use crate::inputs::Input;
+use crate::proved::Library;
+
+/// Bytes or entries that stand before and behind what is lent, and must stay.
+const GUARD: usize = 16;
+
+/// Something lent, and its guards.
+#[derive(Clone, PartialEq)]
+struct Lent<T> {
+    cells: Vec<T>,
+    start: usize,
+    end: usize,
+}
+
+impl<T: Copy + PartialEq + fmt::Debug> Lent<T> {
+    /// Marks everywhere, and a part of so many cells to be lent. The part's
+    /// address varies, so that rooms also start at odd ones.
+    fn room(length: usize, salt: u64, mark: fn(usize, u64) -> T) -> Lent<T> {
+        let start = GUARD + (salt >> 60) as usize;
+        let end = start + length;
+        let cells = (0..end + GUARD).map(|at| mark(at, salt)).collect();
+        Lent { cells, start, end }
+    }
+
+    fn given(content: &[T], salt: u64, mark: fn(usize, u64) -> T) -> Lent<T> {
+        let mut lent = Lent::room(content.len(), salt, mark);
+        lent.part_mut().copy_from_slice(content);
+        lent
+    }
+
+    fn part(&self) -> &[T] {
+        &self.cells[self.start..self.end]
+    }
+
+    fn part_mut(&mut self) -> &mut [T] {
+        &mut self.cells[self.start..self.end]
+    }
+
+    /// Where the cells differ first, in words.
+    fn difference(&self, other: &Self) -> Option<String> {
+        let at = self.cells.iter().zip(&other.cells).position(|(one, other)| one != other)?;
+        let place = if at < self.start {
+            format!("{} before its start", self.start - at)
+        } else if at < self.end {
+            format!("at {}", at - self.start)
+        } else {
+            format!("{} behind its end", at - self.end)
+        };
+        Some(format!("{place}: proved {:?}, second {:?}", self.cells[at], other.cells[at]))
+    }
+}
+
+fn mark_byte(at: usize, salt: u64) -> u8 {
+    (at as u64).wrapping_mul(29).wrapping_add(salt) as u8
+}
+
+fn mark_entry(at: usize, salt: u64) -> u16 {
+    (at as u64).wrapping_mul(10_007).wrapping_add(salt) as u16
+}
+
+/// All that is lent to a call.
+#[derive(Clone, PartialEq)]
+struct Memory {
+    table: Lent<u16>,
+    bytes: Lent<u8>,
+    more_bytes: Lent<u8>,
+    entries: Lent<u16>,
+    room: Lent<u8>,
+    note_room: Lent<u8>,
+}
+
+impl Memory {
+    fn of(input: &Input) -> Memory {
+        let salt = |turn: u32| input.salt.rotate_left(11 * turn);
+        Memory {
+            table: Lent::given(&input.table, salt(0), mark_entry),
+            bytes: Lent::given(&input.bytes, salt(1), mark_byte),
+            more_bytes: Lent::given(&input.more_bytes, salt(2), mark_byte),
+            entries: Lent::room(input.entries, salt(3), mark_entry),
+            room: Lent::room(input.room, salt(4), mark_byte),
+            note_room: Lent::room(input.note_room, salt(5), mark_byte),
+        }
+    }
+
+    fn lend<'a>(&'a mut self, input: &Input) -> Given<'a> {
+        Given {
+            lines: input.lines,
+            value: input.value,
+            pattern: input.pattern,
+            place: input.place,
+            end: input.end,
+            table: self.table.part(),
+            bytes: self.bytes.part_mut(),
+            more_bytes: self.more_bytes.part(),
+            entries: self.entries.part_mut(),
+            room: self.room.part_mut(),
+            note_room: self.note_room.part_mut(),
+        }
+    }
+
+    fn difference(&self, other: &Memory) -> Option<String> {
+        let all = [
+            ("the table", self.table.difference(&other.table)),
+            ("the bytes given", self.bytes.difference(&other.bytes)),
+            ("the other bytes given", self.more_bytes.difference(&other.more_bytes)),
+            ("the room for entries", self.entries.difference(&other.entries)),
+            ("the room", self.room.difference(&other.room)),
+            ("the room for the note", self.note_room.difference(&other.note_room)),
+        ];
+        all.into_iter().find_map(|(name, place)| place.map(|place| format!("{name}, {place}")))
+    }
+}
+
+/// Calls both and compares. A difference is told in words.
+pub fn compare(input: &Input) -> Result<Told, String> {
+    let library = Library { null_if_empty: input.null_if_empty };
+    let mut ours = Memory::of(input);
+    let mut theirs = ours.clone();
+    let proved = library.answer(input.call, ours.lend(input));
+    let second = input.call.answer(theirs.lend(input));
+    if proved != second {
+        return Err(format!("proved {}\nsecond {}", words(proved), words(second)));
+    }
+    if ours != theirs {
+        let place = ours.difference(&theirs).unwrap_or_default();
+        return Err(format!("both   {}\nbut in {place}", words(proved)));
+    }
+    Ok(proved)
+}
+
+fn words(answer: Told) -> String {
+    let Told { number, place, first, second, third } = answer;
+    format!("number {number}, place {place}, values {first} {second} {third}")
+}
