@@ -1,0 +1,4 @@
+pub mod Decided
+pub mod One
+pub mod Two
+pub mod Three

@@ -1,0 +1,159 @@
+-- Demand 1. Every call answers every input, by its type and contract. Here: each refusal is given exactly where the card says, in the card's
+-- order, with the card's place; and a refused call leaves each lent buffer as it was. Assumes nothing.
+use Prim.Native.Nat.{ℕ, _+_, _*_, _/_, _^_}
+use mathlib.Core.Path.{_≡_, refl, sym, ap, _∙_}
+use mathlib.Core.Bool.{cond, not}
+use lib.Dec.{eqb}
+use mathlib.Core.Logic.{_↔_}
+use mathlib.Core.List.{List, [], _∷_}
+use lib.ListN.{length}
+use Rattle.card.specs.Card.{Answer, Answer.accepted, Answer.refused, refusing, onLines, after, laid}
+use Rattle.tables.specs.Tables.{tabled, checkTableAnswer}
+use Rattle.cascades.specs.Cascades.{records, gatesOf, ran}
+use Rattle.cascades.specs.Prices.{cascadePrice}
+use Rattle.cascades.specs.Answers.{sound, checkAnswer, runAnswer, tabulateAnswer, tabulateRoom, invertAnswer, invertRoom, priceAnswer}
+use Rattle.synthesis.specs.Synthesis.{bound, synthesized, synthesizeAnswer, synthesizeRoom}
+use Rattle.tidying.specs.Tidying.{tidied, tidyAnswer, tidyBuffer}
+use Rattle.choice.specs.Choice.{secondWins, chooseAnswer}
+use Rattle.files.specs.Files.{fileSize, linesIn, count, startOf, trailerAt, recordsOf, framed, writeAnswer, writeRoom, readAnswer, readRecords, readNote}
+use Rattle.files.specs.Readers.{openingAnswer}
+use Rattle.listings.specs.Listings.{listingText, listingAnswer, listingRoom}
+use Rattle.sheets.specs.Sheets.{linesOf, entriesOf, fileAnswer, sheetText, sheetAnswer, sheetRoom}
+use Rattle.demands.specs.Rows.{Row, decided, FirstIs, NoneApplies}
+use Rattle.demands.specs.Card.{row1, row2, row3, row4, row5, row6, row7, row8, row9, row9-note, row10, row11}
+use Rattle.demands.proofs.Decided.{first-refuses, refused-first, none-accepts, accepted-none}
+
+-- an answer is refusal k at p exactly if the first row that applies is k at p, and it is accepted with these values exactly if none applies
+pub record Exactly (answer : Answer) (rows : List Row) (vs : List ℕ) : Type 0 where
+  pub refusals : (k p : ℕ) → (answer ≡ refused k p) ↔ FirstIs rows k p
+  pub accepts : (answer ≡ accepted vs) ↔ NoneApplies rows
+
+exactly : (rows : List Row) (vs : List ℕ) → Exactly (decided rows (accepted vs)) rows vs
+exactly rows vs =
+    record {
+      refusals = λ k p. (refused-first vs rows k p, first-refuses vs rows k p);
+      accepts = (accepted-none vs rows, none-accepts vs rows);
+    }
+
+-- a refused call leaves the buffer as it was
+pub Kept : Answer → List ℕ → List ℕ → Type 0
+Kept answer now old = (k p : ℕ) → answer ≡ refused k p → now ≡ old
+
+kept : (answer : Answer) (new old : List ℕ) → Kept answer (after answer new old) old
+unfolding Kept after
+kept answer new old k p e = rw e
+
+-- ---- the calls, with their rows in the card's order
+
+pub check-table : (n : ℕ) (t : List ℕ) → Exactly (checkTableAnswer n t) (row1 n ∷ row2 n (length t) ∷ row3 n t ∷ row4 t ∷ []) []
+unfolding checkTableAnswer onLines tabled decided
+check-table n t = exactly (row1 n ∷ row2 n (length t) ∷ row3 n t ∷ row4 t ∷ []) []
+
+pub synthesize : (n : ℕ) (t : List ℕ) (room : ℕ)
+    → Exactly (synthesizeAnswer n t room) (row1 n ∷ row2 n (length t) ∷ row3 n t ∷ row4 t ∷ row5 (room / 8) (bound n) ∷ []) (length (synthesized n t) ∷ [])
+unfolding synthesizeAnswer onLines tabled decided
+synthesize n t room = exactly (row1 n ∷ row2 n (length t) ∷ row3 n t ∷ row4 t ∷ row5 (room / 8) (bound n) ∷ []) (length (synthesized n t) ∷ [])
+
+pub synthesize-kept : (n : ℕ) (t room : List ℕ) → Kept (synthesizeAnswer n t (length room)) (synthesizeRoom n t room) room
+unfolding synthesizeRoom
+synthesize-kept n t room = kept (synthesizeAnswer n t (length room)) _ room
+
+pub check-cascade : (n : ℕ) (b : List ℕ) → Exactly (checkAnswer n b) (row1 n ∷ row6 b ∷ row7 n b ∷ []) (records b ∷ [])
+unfolding checkAnswer onLines sound decided
+check-cascade n b = exactly (row1 n ∷ row6 b ∷ row7 n b ∷ []) (records b ∷ [])
+
+pub run : (n : ℕ) (b : List ℕ) (p : ℕ) → Exactly (runAnswer n b p) (row1 n ∷ row6 b ∷ row7 n b ∷ row8 n p ∷ []) (ran (gatesOf b) p ∷ [])
+unfolding runAnswer onLines sound decided
+run n b p = exactly (row1 n ∷ row6 b ∷ row7 n b ∷ row8 n p ∷ []) (ran (gatesOf b) p ∷ [])
+
+pub tabulate : (n : ℕ) (b : List ℕ) (room : ℕ) → Exactly (tabulateAnswer n b room) (row1 n ∷ row6 b ∷ row7 n b ∷ row5 room (3 ^ n) ∷ []) (3 ^ n ∷ [])
+unfolding tabulateAnswer onLines sound decided
+tabulate n b room = exactly (row1 n ∷ row6 b ∷ row7 n b ∷ row5 room (3 ^ n) ∷ []) (3 ^ n ∷ [])
+
+pub tabulate-kept : (n : ℕ) (b room : List ℕ) → Kept (tabulateAnswer n b (length room)) (tabulateRoom n b room) room
+unfolding tabulateRoom
+tabulate-kept n b room = kept (tabulateAnswer n b (length room)) _ room
+
+pub invert : (n : ℕ) (b : List ℕ) (room : ℕ) → Exactly (invertAnswer n b room) (row1 n ∷ row6 b ∷ row7 n b ∷ row5 (room / 8) (records b) ∷ []) (records b ∷ [])
+unfolding invertAnswer onLines sound decided
+invert n b room = exactly (row1 n ∷ row6 b ∷ row7 n b ∷ row5 (room / 8) (records b) ∷ []) (records b ∷ [])
+
+pub invert-kept : (n : ℕ) (b room : List ℕ) → Kept (invertAnswer n b (length room)) (invertRoom n b room) room
+unfolding invertRoom
+invert-kept n b room = kept (invertAnswer n b (length room)) _ room
+
+pub price : (n v : ℕ) (b : List ℕ) → Exactly (priceAnswer n v b) (row1 n ∷ row10 v ∷ row6 b ∷ row7 n b ∷ []) (cascadePrice v (gatesOf b) ∷ [])
+unfolding priceAnswer onLines sound decided
+price n v b = exactly (row1 n ∷ row10 v ∷ row6 b ∷ row7 n b ∷ []) (cascadePrice v (gatesOf b) ∷ [])
+
+pub tidy : (n : ℕ) (b : List ℕ)
+    → Exactly (tidyAnswer n b) (row1 n ∷ row6 b ∷ row7 n b ∷ []) (length (tidied (gatesOf b) .left) ∷ tidied (gatesOf b) .steps ∷ [])
+unfolding tidyAnswer onLines sound decided
+tidy n b = exactly (row1 n ∷ row6 b ∷ row7 n b ∷ []) (length (tidied (gatesOf b) .left) ∷ tidied (gatesOf b) .steps ∷ [])
+
+pub tidy-kept : (n : ℕ) (b : List ℕ) → Kept (tidyAnswer n b) (tidyBuffer n b) b
+unfolding tidyBuffer
+tidy-kept n b = kept (tidyAnswer n b) _ b
+
+-- 6 and 7 of the first, then of the second. `cheaper` hands back what this answer says (`Handed`)
+pub choose : (n v : ℕ) (b c : List ℕ)
+    → Exactly (chooseAnswer n v b c) (row1 n ∷ row10 v ∷ row6 b ∷ row7 n b ∷ row6 c ∷ row7 n c ∷ row11 n (gatesOf b) (gatesOf c) ∷ [])
+    (cond (secondWins v (gatesOf b) (gatesOf c)) 2 1 ∷ [])
+unfolding chooseAnswer onLines sound decided
+choose n v b c =
+    exactly (row1 n ∷ row10 v ∷ row6 b ∷ row7 n b ∷ row6 c ∷ row7 n c ∷ row11 n (gatesOf b) (gatesOf c) ∷ [])
+    (cond (secondWins v (gatesOf b) (gatesOf c)) 2 1 ∷ [])
+
+pub write-file : (n : ℕ) (b note : List ℕ) (room : ℕ)
+    → Exactly (writeAnswer n b note room) (row1 n ∷ row6 b ∷ row7 n b ∷ row9-note note ∷ row5 room (fileSize note b) ∷ []) (fileSize note b ∷ [])
+unfolding writeAnswer onLines sound decided
+write-file n b note room = exactly (row1 n ∷ row6 b ∷ row7 n b ∷ row9-note note ∷ row5 room (fileSize note b) ∷ []) (fileSize note b ∷ [])
+
+pub write-file-kept : (n : ℕ) (b note room : List ℕ) → Kept (writeAnswer n b note (length room)) (writeRoom n b note room) room
+unfolding writeRoom
+write-file-kept n b note room = kept (writeAnswer n b note (length room)) _ room
+
+pub read-file : (f : List ℕ) (room noteRoom : ℕ)
+    → Exactly (readAnswer f room noteRoom)
+    (row9 f ∷ row1 (linesIn f) ∷ row6 (recordsOf f) ∷ row7 (linesIn f) (recordsOf f) ∷ row5 (room / 8) (count f) ∷ row5 noteRoom (startOf f) ∷ [])
+    (linesIn f ∷ count f ∷ startOf f ∷ [])
+unfolding readAnswer framed onLines sound decided
+read-file f room noteRoom =
+    exactly (row9 f ∷ row1 (linesIn f) ∷ row6 (recordsOf f) ∷ row7 (linesIn f) (recordsOf f) ∷ row5 (room / 8) (count f) ∷ row5 noteRoom (startOf f) ∷ [])
+    (linesIn f ∷ count f ∷ startOf f ∷ [])
+
+pub read-file-kept : (f room noteRoom : List ℕ) → Kept (readAnswer f (length room) (length noteRoom)) (readRecords f room noteRoom) room
+unfolding readRecords
+read-file-kept f room noteRoom = kept (readAnswer f (length room) (length noteRoom)) _ room
+
+pub read-note-kept : (f room noteRoom : List ℕ) → Kept (readAnswer f (length room) (length noteRoom)) (readNote f room noteRoom) noteRoom
+unfolding readNote
+read-note-kept f room noteRoom = kept (readAnswer f (length room) (length noteRoom)) _ noteRoom
+
+pub opening : (f : List ℕ)
+    → Exactly (openingAnswer f) (row9 f ∷ row1 (linesIn f) ∷ row6 (recordsOf f) ∷ row7 (linesIn f) (recordsOf f) ∷ []) (linesIn f ∷ startOf f ∷ trailerAt f ∷ [])
+unfolding openingAnswer framed onLines sound decided
+opening f = exactly (row9 f ∷ row1 (linesIn f) ∷ row6 (recordsOf f) ∷ row7 (linesIn f) (recordsOf f) ∷ []) (linesIn f ∷ startOf f ∷ trailerAt f ∷ [])
+
+pub listing : (n : ℕ) (b : List ℕ) (room : ℕ)
+    → Exactly (listingAnswer n b room) (row1 n ∷ row6 b ∷ row7 n b ∷ row5 room (length (listingText n (gatesOf b))) ∷ []) (length (listingText n (gatesOf b)) ∷ [])
+unfolding listingAnswer onLines sound decided
+listing n b room = exactly (row1 n ∷ row6 b ∷ row7 n b ∷ row5 room (length (listingText n (gatesOf b))) ∷ []) (length (listingText n (gatesOf b)) ∷ [])
+
+pub listing-kept : (n : ℕ) (b room : List ℕ) → Kept (listingAnswer n b (length room)) (listingRoom n b room) room
+unfolding listingRoom
+listing-kept n b room = kept (listingAnswer n b (length room)) _ room
+
+-- the program's refusal line is that of these rows; the call itself refuses a room too small for the text, and nothing else
+pub table-file : (f : List ℕ)
+    → Exactly (fileAnswer f) (row1 (linesOf f) ∷ record { applies = not (eqb (length f) (1 + 2 * 3 ^ linesOf f)); number = 2; place = 0 } ∷ row2 (linesOf f) (length (entriesOf f)) ∷ row3 (linesOf f) (entriesOf f) ∷ row4 (entriesOf f) ∷ []) []
+unfolding fileAnswer onLines tabled decided
+table-file f = exactly (row1 (linesOf f) ∷ record { applies = not (eqb (length f) (1 + 2 * 3 ^ linesOf f)); number = 2; place = 0 } ∷ row2 (linesOf f) (length (entriesOf f)) ∷ row3 (linesOf f) (entriesOf f) ∷ row4 (entriesOf f) ∷ []) []
+
+pub sheet : (f : List ℕ) (room : ℕ) → Exactly (sheetAnswer f room) (row5 room (length (sheetText f)) ∷ []) (length (sheetText f) ∷ [])
+unfolding sheetAnswer decided
+sheet f room = exactly (row5 room (length (sheetText f)) ∷ []) (length (sheetText f) ∷ [])
+
+pub sheet-kept : (f room : List ℕ) → Kept (sheetAnswer f (length room)) (sheetRoom f room) room
+unfolding sheetRoom
+sheet-kept f room = kept (sheetAnswer f (length room)) _ room

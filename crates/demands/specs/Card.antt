@@ -1,0 +1,62 @@
+-- Document 01's refusal card, a definition for each row: when it is given, and its place.
+use Prim.Native.Nat.{ℕ, _^_}
+use mathlib.Core.Bool.{not}
+use mathlib.Core.List.{List}
+use lib.Dec.{eqb, leb, ltb}
+use lib.ListN.{length}
+use Rattle.card.specs.Card.{linesOk}
+use Rattle.gates.specs.declared.Gate.{Gate}
+use Rattle.tables.specs.Tables.{firstLarge, firstRepeated}
+use Rattle.cascades.specs.Cascades.{records}
+use Rattle.cascades.specs.Answers.{lengthOk, firstBad}
+use Rattle.choice.specs.Choice.{firstDifference}
+use Rattle.files.specs.Files.{frameOk}
+use Rattle.demands.specs.Rows.{Row}
+
+-- lines not 1 to 6
+abbrev pub row1 : ℕ → Row
+row1 n = record { applies = not (linesOk n); number = 1; place = 0 }
+
+-- table length isn't 3^n
+abbrev pub row2 : ℕ → ℕ → Row
+row2 n len = record { applies = not (eqb len (3 ^ n)); number = 2; place = 0 }
+
+-- an entry is 3^n or more: the first such entry
+abbrev pub row3 : ℕ → List ℕ → Row
+row3 n t = record { applies = ltb (firstLarge n t) (length t); number = 3; place = firstLarge n t }
+
+-- an entry equals an earlier one: the first such entry
+abbrev pub row4 : List ℕ → Row
+row4 t = record { applies = ltb (firstRepeated t) (length t); number = 4; place = firstRepeated t }
+
+-- room too small: the size needed
+abbrev pub row5 : ℕ → ℕ → Row
+row5 have need = record { applies = ltb have need; number = 5; place = need }
+
+-- cascade length no multiple of 8, or over 8,000 gates
+abbrev pub row6 : List ℕ → Row
+row6 b = record { applies = not (lengthOk (length b)); number = 6; place = 0 }
+
+-- a record isn't a gate on n lines: the first such gate
+abbrev pub row7 : ℕ → List ℕ → Row
+row7 n b = record { applies = ltb (firstBad n b) (records b); number = 7; place = firstBad n b }
+
+-- pattern is 3^n or more
+abbrev pub row8 : ℕ → ℕ → Row
+row8 n p = record { applies = leb (3 ^ n) p; number = 8; place = 0 }
+
+-- file frame wrong
+abbrev pub row9 : List ℕ → Row
+row9 f = record { applies = not (frameOk f); number = 9; place = 0 }
+
+-- note over 1,024 bytes
+abbrev pub row9-note : List ℕ → Row
+row9-note note = record { applies = ltb 1024 (length note); number = 9; place = 0 }
+
+-- global control value above 2
+abbrev pub row10 : ℕ → Row
+row10 v = record { applies = ltb 2 v; number = 10; place = 0 }
+
+-- two cascades compute different tables: the first input on which they differ
+abbrev pub row11 : ℕ → List Gate → List Gate → Row
+row11 n gs hs = record { applies = ltb (firstDifference n gs hs) (3 ^ n); number = 11; place = firstDifference n gs hs }
