@@ -1,24 +1,23 @@
 -- The lent buffer on the way: it holds the gates of a list, through a gate replaced and a gate taken out, and at the end its bytes are theirs.
 -- A record is looked at byte by byte; that it reads as its gate rests on its being what storing that gate would leave (`standing`). Assumes nothing.
 use mathlib.Core.Path.{_≡_, refl, sym, ap, _∙_}
-use mathlib.Core.Bool.{Bool, true, false}
+use mathlib.Core.Bool.{true}
 use mathlib.Core.List.{List, [], _∷_, _++_}
 use Prim.Native.Nat.{ℕ, zero, suc, _+_, _-_, _*_, _/_, _%_, _<_, _≤_}
-use native.Mathlib.Nat.{zero-add, div-add-mod'}
+use native.Mathlib.Nat.{zero-add}
 use native.Mathlib.Decide.{ℕ-discrete}
 use native.Mathlib.Omega.{arith}
 use lib.ListN.{length, getD, set, take, length-set, List·getD-append}
 use lib.Seq.{sets, length-sets, length-take-le, getD-take, getD-set-same, getD-set-other, getD-append-add, ext-getD}
-use Rattle.ranges.specs.Ranges.{span}
-use Rattle.ranges.specs.Lists.{Each}
-use Rattle.ranges.proofs.Lists.{each-at}
+use Rattle.ranges.proofs.Lists.{each-at, each-imp}
 use Rattle.ranges.proofs.Spans.{length-span, span-at}
 use Rattle.ranges.proofs.Stores.{getD-sets, getD-sets-below, getD-sets-above}
 use Rattle.ranges.proofs.Changes.{each-set, sets-same}
+use Rattle.card.proofs.Cards.{lines-are}
 use Rattle.gates.specs.declared.Gate.{Gate}
 use Rattle.gates.specs.Gates.{IsGate}
 use Rattle.gates.specs.Records.{isRecord, gateAt, recordOf}
-use Rattle.gates.proofs.Records.{length-record, gate-written, record-written, encode-decode}
+use Rattle.gates.proofs.Records.{reads, byte-lt, length-record, gate-written, record-written, encode-decode}
 use Rattle.cascades.specs.Cascades.{records, gatesOf, bytesOf, Whole}
 use Rattle.cascades.proofs.Cascades.{gates-good, gates-count}
 use Rattle.cascades.proofs.Stored.{length-bytes}
@@ -36,39 +35,54 @@ gate-in b m q lt = span-at (λ i. gateAt b (8 * i)) 0 m q _ lt ∙ ap (λ (x : �
 
 -- ---- reading
 
-module _ (n : ℕ) (b : List ℕ) (gs : List Gate) (w : Holds n b gs) (q : ℕ) (lt : q < length gs) where
+module _ (b : List ℕ) (gs : List Gate) (w : Holds b gs) (q : ℕ) (lt : q < length gs) where
   pub holds-fits : 8 * q + 8 ≤ length b
   holds-fits = omega (arith, w .room)
 
-  pub holds-gate : IsGate n (gate gs q)
-  holds-gate = each-at (IsGate n) gs _ (w .gates) q lt
+  pub holds-gate : IsGate 6 (gate gs q)
+  holds-gate = each-at (IsGate 6) gs _ (w .gates) q lt
 
   standing : sets b (8 * q) (recordOf (gate gs q)) ≡ b
   standing = sets-same (recordOf (gate gs q)) b (8 * q) 0 (λ k l. w .bytes q k lt (rw (length-record (gate gs q)) at l))
 
-  pub holds-record : isRecord n b (8 * q) ≡ true
-  holds-record = ap (λ (s : List ℕ). isRecord n s (8 * q)) (sym standing) ∙ record-written (gate gs q) b (8 * q) holds-fits n holds-gate
+  -- its control bytes are digits in base 4
+  pub holds-lines : (k : ℕ) → k < 6 → getD b (8 * q + 2 + k) 0 < 4
+  holds-lines k l =
+      let is : isRecord 6 b (8 * q) ≡ true =
+      ap (λ (s : List ℕ). isRecord 6 s (8 * q)) (sym standing) ∙ record-written (gate gs q) b (8 * q) holds-fits 6 holds-gate in
+      byte-lt 6 (getD b (8 * q + 1) 0) b (8 * q) (reads 6 b (8 * q) is .lines) k l
 
   pub holds-reads : gateAt b (8 * q) ≡ gate gs q
   holds-reads = ap (λ (s : List ℕ). gateAt s (8 * q)) (sym standing) ∙ gate-written (gate gs q) b (8 * q) holds-fits (holds-gate .packed)
 
 -- the gates that the buffer starts with are those that it holds
-pub holds-list : (n : ℕ) (b : List ℕ) (gs : List Gate) (m : ℕ) → Holds n b gs → length gs ≡ m → gatesIn b m ≡ gs
-holds-list n b gs m w e =
+pub holds-list : (b : List ℕ) (gs : List Gate) (m : ℕ) → Holds b gs → length gs ≡ m → gatesIn b m ≡ gs
+holds-list b gs m w e =
     ext-getD _ (gatesIn b m) gs (length-gates b m ∙ sym e)
-    (λ q lt. let l : q < m = rw (length-gates b m) at lt in gate-in b m q l ∙ holds-reads n b gs w q (rw e l))
+    (λ q lt. let l : q < m = rw (length-gates b m) at lt in gate-in b m q l ∙ holds-reads b gs w q (rw e l))
 
 -- ---- at the start
 
-pub holds-start : (n : ℕ) (b : List ℕ) (m : ℕ) → Whole n b m → Holds n b (gatesOf b)
+-- a gate on n lines is one on six
+wider : (n : ℕ) → n ≤ 6 → (g : Gate) → IsGate n g → IsGate 6 g
+wider n six g ok =
+    record {
+      op-low = ok .op-low;
+      op-high = ok .op-high;
+      on-line = omega (arith, ok .on-line);
+      own = ok .own;
+      beyond = λ k le lt. absurd (omega arith);
+      packed = ok .packed;
+    }
+
+pub holds-start : (n : ℕ) (b : List ℕ) (m : ℕ) → Whole n b m → Holds b (gatesOf b)
 unfolding gatesOf
 holds-start n b m w =
     let count : records b ≡ m = omega (arith, w .size) in
     let long : length (gatesOf b) ≡ m = gates-count b ∙ count in
     record {
-      lines = w .lines;
       room = omega (arith, w .size);
-      gates = gates-good n b m w;
+      gates = each-imp (IsGate n) (IsGate 6) (wider n (lines-are n (w .lines) .1)) (gatesOf b) (gates-good n b m w);
       bytes = λ q k lq lk.
           let l : q < m = omega arith in
           let g : gate (gatesOf b) q ≡ gateAt b (8 * q) =
@@ -80,13 +94,12 @@ holds-start n b m w =
 
 -- ---- one gate replaced
 
-pub holds-set : (n : ℕ) (b : List ℕ) (gs : List Gate) (p : ℕ) (g : Gate) → Holds n b gs → p < length gs → IsGate n g
-    → Holds n (sets b (8 * p) (recordOf g)) (set gs p g)
-holds-set n b gs p g w lt ok =
+pub holds-set : (b : List ℕ) (gs : List Gate) (p : ℕ) (g : Gate) → Holds b gs → p < length gs → IsGate 6 g
+    → Holds (sets b (8 * p) (recordOf g)) (set gs p g)
+holds-set b gs p g w lt ok =
     record {
-      lines = w .lines;
       room = rw (length-set gs p g, length-sets b (8 * p) (recordOf g)) (w .room);
-      gates = each-set (IsGate n) gs p g (w .gates) ok;
+      gates = each-set (IsGate 6) gs p g (w .gates) ok;
       bytes = λ q k lq lk. byte q k (rw (length-set gs p g) at lq) lk (ℕ-discrete q p);
     }
   where
@@ -105,13 +118,12 @@ holds-set n b gs p g w lt ok =
 
 -- ---- one gate taken out
 
-pub holds-without : (n : ℕ) (s t : List ℕ) (gs : List Gate) (p m : ℕ) → length gs ≡ m → p < m → Holds n s gs → Closed s t p m → Holds n t (without gs p)
-holds-without n s t gs p m count lt w c =
+pub holds-without : (s t : List ℕ) (gs : List Gate) (p m : ℕ) → length gs ≡ m → p < m → Holds s gs → Closed s t p m → Holds t (without gs p)
+holds-without s t gs p m count lt w c =
     let long = length-without gs p (omega arith) in
     record {
-      lines = w .lines;
       room = omega (arith, w .room, c .len);
-      gates = each-without (IsGate n) gs p (w .gates);
+      gates = each-without (IsGate 6) gs p (w .gates);
       bytes = λ q k lq lk.
           c .moved q k (omega arith) lk
           ∙ w .bytes (stood p q) k (inside q (omega arith)) lk
@@ -169,8 +181,8 @@ record-of (g ∷ gs) (suc q) k lq lk =
     ap (λ (x : ℕ). getD (recordOf g ++ bytesOf gs) x 0) e ∙ getD-append-add (recordOf g) (bytesOf gs) (8 * q + k) 0 ∙ record-of gs q k (omega arith) lk
 
 -- the bytes of the buffer are the records of the gates that it holds
-pub holds-bytes : (n : ℕ) (b : List ℕ) (gs : List Gate) → Holds n b gs → take (8 * length gs) b ≡ bytesOf gs
-holds-bytes n b gs w =
+pub holds-bytes : (b : List ℕ) (gs : List Gate) → Holds b gs → take (8 * length gs) b ≡ bytesOf gs
+holds-bytes b gs w =
     ext-getD 0 (take (8 * length gs) b) (bytesOf gs) (long ∙ sym (length-bytes gs))
     (λ x lt.
     let l : x < 8 * length gs = rw long at lt in

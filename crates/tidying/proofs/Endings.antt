@@ -1,8 +1,8 @@
 -- Steps repeated until none fits: gates plus controls fall with each step, so the repetition ends within as many steps, and ends where nothing fits.
 -- `Procedure` says it without the bound that the definition counts down, and has one answer only. Assumes nothing.
 use mathlib.Core.Path.{_≡_, refl, sym, ap, _∙_, subst}
-use mathlib.Core.Logic.{_⊎_, ⊎-elim}
-use mathlib.Core.Bool.{Bool, true, false, _&&_}
+use mathlib.Core.Logic.{⊎-elim}
+use mathlib.Core.Bool.{Bool, true, false}
 use mathlib.Core.List.{List}
 use Prim.Native.Nat.{ℕ, zero, suc, _+_, _-_, _<_, _≤_}
 use native.Mathlib.Numerals.{add-one}
@@ -10,13 +10,12 @@ use native.Mathlib.Omega.{arith}
 use lib.Dec.{ltb}
 use lib.ListN.{length}
 use borrow.Author.Tests.{ltb-true, ltb-false}
-use Rattle.ranges.specs.Ranges.{first}
 use Rattle.ranges.proofs.Bools.{decide, clash}
-use Rattle.ranges.proofs.Searches.{Found, found}
+use Rattle.ranges.proofs.Searches.{found}
 use Rattle.gates.specs.declared.Gate.{Gate}
 use Rattle.tidying.specs.Rules.{fits}
 use Rattle.tidying.specs.Tidying.{gate, isOpen, fitting, firstJ, firstI, untidy, step, Tidied, tidiedIn, size, tidied}
-use Rattle.tidying.proofs.Steps.{Stepped, stepped-size, step-stepped}
+use Rattle.tidying.proofs.Steps.{stepped-size, step-stepped}
 
 -- ---- one look at the list
 

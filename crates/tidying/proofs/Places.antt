@@ -3,7 +3,7 @@
 -- target compose their operators, and two gates on different targets put two digits. Facts on the operators are computed tests. Assumes nothing.
 use mathlib.Core.Path.{_≡_, refl, sym, ap, _∙_}
 use mathlib.Core.Bool.{Bool, true, false, cond, not, _&&_, _||_, Bool·beq}
-use Prim.Native.Nat.{ℕ, _<_, _≤_}
+use Prim.Native.Nat.{ℕ, _<_}
 use native.Mathlib.Decide.{ℕ-discrete}
 use native.Mathlib.Omega.{arith}
 use lib.Dec.{eqb}
@@ -14,7 +14,7 @@ use Rattle.ranges.proofs.Triples.{triple-at, if-so, if-not, beq-same}
 use Rattle.digits.specs.Digits.{digit, put}
 use Rattle.digits.proofs.Digits.{digit-lt, digit-put-same, digit-put-other, put-put, put-same, put-swap}
 use Rattle.gates.specs.declared.Gate.{Gate}
-use Rattle.gates.specs.Gates.{act, control, holds, fires, firesOn, applied, IsGate}
+use Rattle.gates.specs.Gates.{act, control, holds, fires, applied, IsGate}
 use Rattle.gates.proofs.Operators.{act-lt}
 use Rattle.gates.proofs.Gates.{fires-put, fires-put-free}
 use Rattle.tidying.specs.Places.{isC, sameType, upsets, blocks, clashes, mayChange}

@@ -1,11 +1,11 @@
--- What tidying promises of every well-formed cascade, in plain sight. Assumes nothing.
-use mathlib.Core.Path.{_≡_, refl, sym, ap, _∙_, subst}
+-- What tidying promises, in plain sight: of every well-formed cascade on n lines, and at the end of every list of gates. Each is a sentence of demand 3.
+-- Assumes nothing.
+use mathlib.Core.Path.{_≡_, refl, _∙_}
 use mathlib.Core.Bool.{true, false}
 use mathlib.Core.List.{List}
-use Prim.Native.Nat.{ℕ, suc, _+_, _*_, _^_, _<_, _≤_}
+use Prim.Native.Nat.{ℕ, _^_, _<_, _≤_}
 use native.Mathlib.Omega.{arith}
 use lib.ListN.{length}
-use Rattle.ranges.specs.Ranges.{span}
 use Rattle.ranges.specs.Lists.{Each, total}
 use Rattle.ranges.proofs.Spans.{span-ext}
 use Rattle.ranges.proofs.Parts.{total-ext}
@@ -14,15 +14,20 @@ use Rattle.gates.specs.Gates.{IsGate}
 use Rattle.cascades.specs.Cascades.{ran, tableOf, Cascade}
 use Rattle.cascades.specs.Prices.{gatePrice, cascadePrice}
 use Rattle.tidying.specs.Rules.{fits}
-use Rattle.tidying.specs.Tidying.{gate, isOpen, untidy, step, Tidied, size, tidied}
+use Rattle.tidying.specs.Tidying.{gate, isOpen, ruled, size, tidied}
 use Rattle.tidying.proofs.Weights.{priceWith, price-plain}
-use Rattle.tidying.proofs.Steps.{stepped-gates, stepped-keeps, stepped-count, stepped-price, step-stepped}
+use Rattle.tidying.proofs.Steps.{ruled-stepped, stepped-gates, stepped-keeps, stepped-count, stepped-price, step-stepped}
 use Rattle.tidying.proofs.Endings.{Procedure, nothing-fits, kept, stays, tidied-procedure}
+
+-- a rule on an open pair, the first or any other, keeps what the cascade computes at every pattern
+pub rule-keeps : (n : ℕ) (gs : List Gate) (i j : ℕ) → Each (IsGate n) gs → i < j → j < length gs → isOpen gs i j ≡ true → fits (gate gs i) (gate gs j) ≡ true
+    → (p : ℕ) → ran (ruled gs i j) p ≡ ran gs p
+rule-keeps n gs i j ok ij inside o f = stepped-keeps n (ruled-stepped gs i j ij inside o f) ok
 
 tidied-gates : (n : ℕ) (gs : List Gate) → Each (IsGate n) gs → Each (IsGate n) (tidied gs .left)
 tidied-gates n gs ok = kept (Each (IsGate n)) (λ l u e. stepped-gates n (step-stepped l u) e) gs ok
 
--- a price made of the base price, the controls of other values and an amount for the operator does not rise, nor does any of its parts need looking at again
+-- no price rises that is made of the base price, the controls of other values, and an amount for the operator that C1 and C2 do not cost
 pub tidied-price : (e : ℕ → ℕ) → e 1 ≡ 0 → e 2 ≡ 0 → (n v : ℕ) (gs : List Gate) → Each (IsGate n) gs
     → total (priceWith e v) (tidied gs .left) ≤ total (priceWith e v) gs
 tidied-price e c1 c2 n v gs ok =

@@ -2,26 +2,23 @@
 -- Assumes nothing.
 use mathlib.Core.Path.{_≡_, refl, sym, ap, _∙_, subst}
 use mathlib.Core.Logic.{⊎-elim}
-use mathlib.Core.Bool.{Bool, true, false}
+use mathlib.Core.Bool.{true, false}
 use mathlib.Core.List.{List, [], _∷_, _++_}
-use Prim.Native.Nat.{ℕ, suc, _+_, _-_, _*_, _/_, _<_, _≤_}
+use Prim.Native.Nat.{ℕ, _+_, _-_, _*_, _<_, _≤_}
 use native.Mathlib.Omega.{arith}
-use lib.Dec.{ltb}
 use lib.ListN.{length, take, replicate}
 use borrow.Author.Tests.{lt-ltb, le-ltb}
 use Rattle.ranges.specs.Lists.{total}
 use Rattle.ranges.proofs.Counts.{here-or-later}
 use Rattle.gates.specs.declared.Gate.{Gate}
-use Rattle.cascades.specs.Cascades.{records, gatesOf, bytesOf, Whole}
-use Rattle.cascades.specs.Prices.{controlCount}
-use Rattle.cascades.proofs.Cascades.{gates-count}
+use Rattle.cascades.specs.Cascades.{records, gatesOf, bytesOf}
 use Rattle.tidying.specs.Tidying.{firstJ, firstI, ruled, untidy, step, Tidied, size, tidied}
 use Rattle.tidying.specs.Buffers.{gatesIn, Holds, TidiedIn}
 use Rattle.tidying.specs.Rows.{Known, FirstAt}
 use Rattle.tidying.proofs.Weights.{control-count-le}
 use Rattle.tidying.proofs.Steps.{FirstPair, first-pair, stepped-size, stepped-count, step-stepped}
-use Rattle.tidying.proofs.Endings.{afterSteps, after-none, after-one-more, Procedure, one-answer, tidied-procedure}
-use Rattle.tidying.proofs.Buffers.{holds-start, holds-list, holds-bytes}
+use Rattle.tidying.proofs.Endings.{afterSteps, after-none, after-one-more, one-answer, tidied-procedure}
+use Rattle.tidying.proofs.Buffers.{holds-list, holds-bytes}
 
 -- a list of m gates has at most 7 m gates and controls
 pub size-le : (gs : List Gate) → size gs ≤ 7 * length gs
@@ -52,16 +49,16 @@ module _ (gs : List Gate) (i j : ℕ) (f : FirstAt gs i j) where
 -- ---- the loop
 
 -- after k steps on the gates gs the buffer b holds m of them, and far is true of these
-pub record Going (n : ℕ) (gs : List Gate) (b far : List ℕ) (m k : ℕ) : Type 0 where
+pub record Going (gs : List Gate) (b far : List ℕ) (m k : ℕ) : Type 0 where
   pub count : length (afterSteps k gs) ≡ m
   pub fewer : m ≤ length gs
-  pub holds : Holds n b (afterSteps k gs)
+  pub holds : Holds b (afterSteps k gs)
   pub known : Known (afterSteps k gs) far
   pub used : (q : ℕ) → q < k → untidy (afterSteps q gs) ≡ true
   pub spent : k + size (afterSteps k gs) ≤ size gs
 
-pub going-start : (n : ℕ) (gs : List Gate) (b far : List ℕ) (m : ℕ) → length gs ≡ m → Holds n b gs → Known gs far → Going n gs b far m 0
-going-start n gs b far m e h k =
+pub going-start : (gs : List Gate) (b far : List ℕ) (m : ℕ) → length gs ≡ m → Holds b gs → Known gs far → Going gs b far m 0
+going-start gs b far m e h k =
     record {
       count = rw (after-none gs) e;
       fewer = omega arith;
@@ -71,14 +68,14 @@ going-start n gs b far m e h k =
       spent = rw (after-none gs) (omega arith);
     }
 
-module _ (n : ℕ) (gs : List Gate) (b far : List ℕ) (m k : ℕ) (w : Going n gs b far m k) where
+module _ (gs : List Gate) (b far : List ℕ) (m k : ℕ) (w : Going gs b far m k) where
   -- the gates that the buffer starts with
   pub going-gates : gatesIn b m ≡ afterSteps k gs
-  going-gates = holds-list n b (afterSteps k gs) m (w .holds) (w .count)
+  going-gates = holds-list b (afterSteps k gs) m (w .holds) (w .count)
 
   module _ (i j : ℕ) (f : FirstAt (afterSteps k gs) i j) where
-    pub going-next : i < m → (b′ far′ : List ℕ) (r : ℕ) → Holds n b′ (ruled (afterSteps k gs) i j) → r ≡ length (ruled (afterSteps k gs) i j)
-        → Known (ruled (afterSteps k gs) i j) far′ → Going n gs b′ far′ r (k + 1)
+    pub going-next : i < m → (b′ far′ : List ℕ) (r : ℕ) → Holds b′ (ruled (afterSteps k gs) i j) → r ≡ length (ruled (afterSteps k gs) i j)
+        → Known (ruled (afterSteps k gs) i j) far′ → Going gs b′ far′ r (k + 1)
     going-next lt b′ far′ r h e known =
         record {
           count = rw more (sym e);
@@ -112,13 +109,13 @@ module _ (n : ℕ) (gs : List Gate) (b far : List ℕ) (m k : ℕ) (w : Going n 
         (tidied-procedure gs)
 
 -- the buffer afterwards, its freed records cleared
-pub going-done : (n : ℕ) (s b far t : List ℕ) (m left k i j : ℕ) → Whole n s m → length b ≡ length s → (w : Going n (gatesOf s) b far left k)
+pub going-done : (s b far t : List ℕ) (m left k i j : ℕ) → length s ≡ 8 * m → length b ≡ length s → (w : Going (gatesOf s) b far left k)
     → FirstAt (afterSteps k (gatesOf s)) i j → left ≤ i → t ≡ take (8 * left) b ++ replicate (length b - 8 * left) 0 → TidiedIn s t left k
-going-done n s b far t m left k i j whole len w f le e =
-    let done : record { left = afterSteps k (gatesOf s); steps = k } ≡ tidied (gatesOf s) = going-end n (gatesOf s) b far left k w i j f le in
+going-done s b far t m left k i j size len w f le e =
+    let done : record { left = afterSteps k (gatesOf s); steps = k } ≡ tidied (gatesOf s) = going-end (gatesOf s) b far left k w i j f le in
     let list : afterSteps k (gatesOf s) ≡ tidied (gatesOf s) .left = ap (λ (r : Tidied). r .left) done in
     let count : left ≡ length (tidied (gatesOf s) .left) = sym (w .count) ∙ ap length list in
     let bytes : take (8 * left) b ≡ bytesOf (tidied (gatesOf s) .left) =
-    ap (λ (x : ℕ). take (8 * x) b) (sym (w .count)) ∙ holds-bytes n b (afterSteps k (gatesOf s)) (w .holds) ∙ ap bytesOf list in
-    let freed : length b - 8 * left ≡ 8 * (records s - length (tidied (gatesOf s) .left)) = omega (arith, whole .size) in
+    ap (λ (x : ℕ). take (8 * x) b) (sym (w .count)) ∙ holds-bytes b (afterSteps k (gatesOf s)) (w .holds) ∙ ap bytesOf list in
+    let freed : length b - 8 * left ≡ 8 * (records s - length (tidied (gatesOf s) .left)) = omega arith in
     record { count = count; uses = ap (λ (r : Tidied). r .steps) done; bytes = e ∙ rw (bytes, freed) }

@@ -1,22 +1,22 @@
 -- What the search remembers of each row stays true: where a row is found clear further on, where a gate is replaced, and where a gate is taken out;
 -- and what a row that is clear up to j says of the first pair. Assumes nothing.
 use mathlib.Core.Path.{_≡_, refl, sym, ap, ap₂, _∙_, subst}
-use mathlib.Core.Logic.{_⊎_, ⊎-elim}
-use mathlib.Core.Bool.{Bool, true, false, cond, _&&_}
+use mathlib.Core.Logic.{⊎-elim}
+use mathlib.Core.Bool.{Bool, true, false, _&&_}
 use mathlib.Core.List.{List, _++_}
-use Prim.Native.Nat.{ℕ, zero, suc, _+_, _-_, _<_, _≤_}
+use Prim.Native.Nat.{ℕ, _+_, _-_, _<_, _≤_}
 use native.Mathlib.Nat.{sub-zero}
 use native.Mathlib.Decide.{ℕ-discrete}
 use native.Mathlib.Omega.{arith}
 use lib.Dec.{ltb}
 use lib.ListN.{length, getD, set, drop, length-set, length-append, length-drop}
 use lib.Seq.{getD-set-same, getD-set-other}
-use borrow.Author.Tests.{ltb-true, ltb-false, lt-ltb, le-ltb}
-use Rattle.ranges.specs.Ranges.{every, first, span}
+use borrow.Author.Tests.{ltb-true, lt-ltb, le-ltb}
+use Rattle.ranges.specs.Ranges.{first, span}
 use Rattle.ranges.proofs.Bools.{and-both, decide, clash}
 use Rattle.ranges.proofs.Counts.{here-or-later}
 use Rattle.ranges.proofs.Tests.{every-at, every-make}
-use Rattle.ranges.proofs.Searches.{Found, found, found-unique, first-more, first-hit, first-ends}
+use Rattle.ranges.proofs.Searches.{found, found-unique, first-more, first-hit, first-ends}
 use Rattle.ranges.proofs.Spans.{length-span}
 use Rattle.ranges.proofs.Changes.{at-set, filled-at}
 use Rattle.gates.specs.declared.Gate.{Gate}

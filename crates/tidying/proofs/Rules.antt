@@ -3,16 +3,15 @@
 -- line on which the controls differ. Assumes nothing.
 use mathlib.Core.Path.{_≡_, refl, sym, ap, _∙_}
 use mathlib.Core.Logic.{_⊎_, ⊎-elim}
-use mathlib.Core.Bool.{Bool, true, false, cond, not, _&&_, _||_, Bool·beq}
+use mathlib.Core.Bool.{Bool, true, false, not, _&&_, _||_, Bool·beq}
 use mathlib.Core.List.{List, [], _∷_}
-use Prim.Native.Nat.{ℕ, _+_, _-_, _^_, _<_, _≤_}
+use Prim.Native.Nat.{ℕ, _-_, _<_}
 use native.Mathlib.Decide.{ℕ-discrete}
 use native.Mathlib.Omega.{arith}
 use lib.Dec.{eqb}
 use borrow.Author.Tests.{eqb-true, eqb-false, eq-eqb, ne-eqb, not-true, not-false}
-use Rattle.ranges.specs.Ranges.{every, sum, first}
 use Rattle.ranges.specs.Lists.{Each, through}
-use Rattle.ranges.proofs.Bools.{and-left, and-right, or-left, or-right, clash, decide}
+use Rattle.ranges.proofs.Bools.{and-left, and-right, or-left, or-right, decide}
 use Rattle.ranges.proofs.Tests.{every-below, every-ext, every-fails}
 use Rattle.ranges.proofs.Lists.{each-imp}
 use Rattle.ranges.proofs.Triples.{beq-same}
@@ -25,8 +24,8 @@ use Rattle.gates.specs.Gates.{act, inverseOp, control, holds, firesOn, fires, a
 use Rattle.gates.proofs.Operators.{act-inverse}
 use Rattle.gates.proofs.Gates.{holds-none, inverse-gate}
 use Rattle.cascades.specs.Cascades.{ran}
-use Rattle.tidying.specs.Places.{isC, sameType, upsets, blocks, clashes, mayChange}
-use Rattle.tidying.specs.Rules.{sameLines, differAt, differences, lineOf, cancels, merges, reduces, fits, withControl, loosened, retuned}
+use Rattle.tidying.specs.Places.{isC, upsets, blocks, clashes, mayChange}
+use Rattle.tidying.specs.Rules.{sameLines, differAt, differences, lineOf, cancels, merges, reduces, withControl, loosened, retuned}
 use Rattle.tidying.proofs.Places.{turned, applied-puts, on-one-target}
 
 -- ---- what the tests say

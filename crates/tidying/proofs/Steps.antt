@@ -2,27 +2,27 @@
 -- A step is read as a relation: gate i passes the gates between, the rule's two gates stand side by side, and what it leaves goes back (`Stepped`);
 -- so nothing here speaks of an index but `step-stepped`, that the step of the definition is one. Assumes nothing.
 use mathlib.Core.Path.{_≡_, refl, sym, ap, _∙_, subst}
-use mathlib.Core.Bool.{Bool, true, false, cond, _||_, _&&_}
+use mathlib.Core.Bool.{Bool, true, false, cond, _||_}
 use mathlib.Core.List.{List, [], _∷_, _++_, append-assoc}
-use Prim.Native.Nat.{ℕ, zero, suc, _+_, _-_, _*_, _<_, _≤_}
+use Prim.Native.Nat.{ℕ, suc, _+_, _-_, _<_, _≤_}
 use native.Mathlib.Nat.{sub-zero}
 use native.Mathlib.Omega.{arith}
 use lib.Dec.{ltb}
-use lib.ListN.{length, getD, set, length-append}
+use lib.ListN.{length, set, length-append}
 use lib.Seq.{set-at}
 use borrow.Author.Tests.{ltb-true}
-use Rattle.ranges.specs.Ranges.{every, first, span}
+use Rattle.ranges.specs.Ranges.{span}
 use Rattle.ranges.specs.Lists.{Each, total, through}
 use Rattle.ranges.proofs.Bools.{and-left, and-right}
 use Rattle.ranges.proofs.Tests.{every-at}
-use Rattle.ranges.proofs.Searches.{Found, found}
+use Rattle.ranges.proofs.Searches.{found}
 use Rattle.ranges.proofs.Spans.{length-span, span-each}
-use Rattle.ranges.proofs.Lists.{each-append, total-append, through-append, through-cons, through-nil}
+use Rattle.ranges.proofs.Lists.{each-append, total-append, through-append}
 use Rattle.ranges.proofs.Parts.{span-list, span-cut, each-parts, total-ones}
 use Rattle.gates.specs.declared.Gate.{Gate}
 use Rattle.gates.specs.Gates.{applied, inverse, IsGate}
 use Rattle.cascades.specs.Cascades.{ran}
-use Rattle.cascades.specs.Prices.{controlCount, gatePrice, cascadePrice}
+use Rattle.cascades.specs.Prices.{controlCount}
 use Rattle.tidying.specs.Places.{mayChange}
 use Rattle.tidying.specs.Rules.{cancels, merges, reduces, fits, loosened, retuned}
 use Rattle.tidying.specs.Tidying.{gate, isOpen, fitting, firstJ, firstI, without, ruled, untidy, step, size}

@@ -1,28 +1,26 @@
 -- What the lent buffer holds on the way: cited by the contracts of inner functions alone.
 use mathlib.Core.Path.{_≡_}
-use mathlib.Core.Bool.{true, cond}
+use mathlib.Core.Bool.{cond}
 use mathlib.Core.List.{List, _++_}
 use Prim.Native.Nat.{ℕ, _+_, _-_, _*_, _<_, _≤_}
 use lib.Dec.{ltb}
 use lib.ListN.{length, getD, replicate}
 use Rattle.ranges.specs.Ranges.{span}
 use Rattle.ranges.specs.Lists.{Each}
-use Rattle.card.specs.Card.{linesOk}
 use Rattle.gates.specs.declared.Gate.{Gate}
 use Rattle.gates.specs.Gates.{IsGate}
 use Rattle.gates.specs.Records.{gateAt, recordOf}
 use Rattle.cascades.specs.Cascades.{records, gatesOf, bytesOf}
-use Rattle.tidying.specs.Tidying.{gate, Tidied, tidied}
+use Rattle.tidying.specs.Tidying.{gate, tidied}
 
 -- the first m gates of a buffer
 unfoldable pub gatesIn : List ℕ → ℕ → List Gate
 gatesIn b m = span (λ i. gateAt b (8 * i)) 0 m
 
--- the buffer starts with the records of gs, gates on n lines
-pub record Holds (n : ℕ) (b : List ℕ) (gs : List Gate) : Type 0 where
-  pub lines : linesOk n ≡ true
+-- the buffer starts with the records of gs, which are gates
+pub record Holds (b : List ℕ) (gs : List Gate) : Type 0 where
   pub room : 8 * length gs ≤ length b
-  pub gates : Each (IsGate n) gs
+  pub gates : Each (IsGate 6) gs
   pub bytes : (q k : ℕ) → q < length gs → k < 8 → getD b (8 * q + k) 0 ≡ getD (recordOf (gate gs q)) k 0
 
 -- where the element stood that stands at q once element p has gone

@@ -1,35 +1,34 @@
 // The lent buffer: one gate read, one record taken out, and freed records cleared.
 ghost use mathlib.Core.Path.{_≡_};
-ghost use mathlib.Core.Bool.{true};
 ghost use mathlib.Core.List.{_++_};
-ghost use Prim.Native.Nat.{_+_, _-_, _*_, _≤_, _<_};
-ghost use lib.ListN.{length, take, replicate};
-ghost use Rattle.card.specs.Card.{linesOk};
-ghost use Rattle.gates.specs.Records.{isRecord, gateAt};
+ghost use Prim.Native.Nat.{ℕ, _+_, _-_, _*_, _≤_, _<_};
+ghost use lib.ListN.{length, getD, take, replicate};
+ghost use Rattle.gates.specs.Records.{gateAt};
 ghost use Rattle.tidying.specs.Buffers.{Closed};
 use gates::Gate;
-use gates::Record;
 
-// Gate i, of records that were checked.
-pub fn read_gate(lines: u8, b: &[u8], i: usize) -> Gate
-    requires { ⌜ (linesOk lines ≡ true) × (isRecord lines (now b) (8 * i) ≡ true) × (8 * i + 8 ≤ length (now b)) ⌝ }
+// A control in front of those of the lines above.
+fn pack_under(low: u8, above: u16) -> u16
+    requires { ⌜ (low < 4) × (above < 4096) ⌝ }
+    ensures { λ r. ⌜ r ≡ low + 4 * above ⌝ }
+{
+    low as u16 + 4 * above
+}
+
+// Gate i. The records were checked, so they are read without a test.
+pub fn read_gate(b: &[u8], i: usize) -> Gate
+    requires { ⌜ (8 * i + 8 ≤ length (now b)) × ((k : ℕ) → k < 6 → getD (now b) (8 * i + 2 + k) 0 < 4) ⌝ }
     ensures { λ r. ⌜ r ≡ gateAt (now (b .entry)) (8 * i) ⌝ }
 {
-    let Record::Gate {
-        operator,
-        target,
-        controls,
-    } = gates::decode(lines, b, 8 * i)
-    else {
-        return Gate {
-            operator: 0,
-            target: 0,
-            controls: 0,
-        };
-    };
+    let at = 8 * i;
+    let upper = pack_under(b[at + 5], pack_under(b[at + 6], pack_under(b[at + 7], 0)));
+    let controls = pack_under(
+        b[at + 2],
+        pack_under(b[at + 3], pack_under(b[at + 4], upper)),
+    );
     Gate {
-        operator,
-        target,
+        operator: b[at],
+        target: b[at + 1],
         controls,
     }
 }

@@ -1,7 +1,7 @@
 // The controls of gates, packed in base 4: one of them, one replaced, and two gates' controls compared line by line.
 ghost use mathlib.Core.Path.{_≡_};
 ghost use mathlib.Core.Bool.{cond, not, Bool·beq};
-ghost use Prim.Native.Nat.{_^_, _≤_, _<_};
+ghost use Prim.Native.Nat.{_^_, _<_};
 ghost use lib.Dec.{eqb};
 ghost use Rattle.ranges.specs.Ranges.{every, sum, first};
 ghost use Rattle.digits.specs.Digits.{digit, put};
@@ -21,19 +21,12 @@ fn weight(k: usize) -> u16
     }
 }
 
-// The control on line k. Every division is by a constant.
+// The control on line k.
 pub fn control_on(controls: u16, k: usize) -> u16
     requires { ⌜ k < 6 ⌝ }
     ensures { λ r. ⌜ r ≡ digit 4 k controls ⌝ }
 {
-    match k {
-        0 => controls % 4,
-        1 => controls / 4 % 4,
-        2 => controls / 16 % 4,
-        3 => controls / 64 % 4,
-        4 => controls / 256 % 4,
-        _ => controls / 1024 % 4,
-    }
+    (controls >> (2 * k)) % 4
 }
 
 // The controls with that on line k replaced by v.

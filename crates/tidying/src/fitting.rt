@@ -79,30 +79,31 @@ pub fn invert(h: Gate) -> Gate
     }
 }
 
-// Gate i after control reduction: it loses the line on which the two differ.
-pub fn loosen(g: Gate, h: Gate) -> Gate
-    requires { ⌜ (reduces g h ≡ true) × (g .controls < 4 ^ 6) ⌝ }
-    ensures { λ r. ⌜ r ≡ loosened g h ⌝ }
-{
-    let k = super::controls::find_difference(g.controls, h.controls);
-    Gate {
-        operator: g.operator,
-        target: g.target,
-        controls: super::controls::with_control(g.controls, k, 3),
-    }
+// The gates i and j after control reduction.
+pub struct Reduced {
+    pub first: Gate,
+    pub second: Gate,
 }
 
-// Gate j after control reduction: the third value there, and a C inverted.
-pub fn retune(g: Gate, h: Gate) -> Gate
-    requires { ⌜ (reduces g h ≡ true) × (h .controls < 4 ^ 6) ⌝ }
-    ensures { λ r. ⌜ r ≡ retuned g h ⌝ }
+// Control reduction: gate i loses the line on which the two differ; gate j gets the third value there and, if a C, becomes its inverse.
+pub fn reduce_pair(g: Gate, h: Gate) -> Reduced
+    requires { ⌜ (reduces g h ≡ true) × (g .controls < 4 ^ 6) × (h .controls < 4 ^ 6) ⌝ }
+    ensures { λ r. ⌜ (r .first ≡ loosened g h) × (r .second ≡ retuned g h) ⌝ }
 {
     let k = super::controls::find_difference(g.controls, h.controls);
     let s = super::controls::control_on(g.controls, k);
     let t = super::controls::control_on(h.controls, k);
-    Gate {
-        operator: gates::invert_op(h.operator),
+    let same = g.operator;
+    let back = gates::invert_op(h.operator);
+    let first = Gate {
+        operator: same,
+        target: g.target,
+        controls: super::controls::with_control(g.controls, k, 3),
+    };
+    let second = Gate {
+        operator: back,
         target: h.target,
         controls: super::controls::with_control(h.controls, k, 3 - s - t),
-    }
+    };
+    Reduced { first, second }
 }

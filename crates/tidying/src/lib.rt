@@ -28,7 +28,7 @@ pub fn tidy(lines: u8, cascade: &mut [u8]) -> Tidied
     match cascades::check_cascade(lines, cascade) {
         Counted::Refused { number, place } => Tidied::Refused { number, place },
         Counted::Gates(m) => {
-            let done = repeating::tidy_records(lines, cascade, m);
+            let done = repeating::tidy_records(cascade, m);
             Tidied::Gates {
                 left: done.left,
                 steps: done.steps,

@@ -1,7 +1,7 @@
 // What the search remembers: far[r] says how far row r is known to be clear. A changed gate is looked at again, a gate that goes moves the rest down.
 ghost use mathlib.Core.Path.{_≡_};
 ghost use mathlib.Core.List.{_++_};
-ghost use Prim.Native.Nat.{_+_, _-_, _*_, _≤_, _<_};
+ghost use Prim.Native.Nat.{_+_, _-_, _≤_, _<_};
 ghost use lib.ListN.{length, getD, set, drop};
 ghost use Rattle.ranges.specs.Ranges.{span};
 ghost use Rattle.tidying.specs.Buffers.{gatesIn, Holds, stood};
@@ -21,15 +21,15 @@ pub fn start_rows(far: &mut [usize], m: usize)
 }
 
 // How far row r, clear up to c, is clear once gate p behind it has become g: what lies before p stays, and the pair r, p is looked at again.
-fn look_again(lines: u8, b: &[u8], m: usize, p: usize, g: Gate, r: usize, c: usize) -> usize
-    requires { ⌜ Holds lines (now b) (gatesIn (now b) m) ⌝ }
+fn look_again(b: &[u8], m: usize, p: usize, g: Gate, r: usize, c: usize) -> usize
+    requires { ⌜ Holds (now b) (gatesIn (now b) m) ⌝ }
     requires { ⌜ (r < p) × (p < m) × (g .target < 6) × Clear (gatesIn (now b) m) r c ⌝ }
     ensures { λ d. ⌜ Clear (set (gatesIn (now (b .entry)) m) p g) r d ⌝ }
 {
     if c <= p {
         return c;
     }
-    let h = super::buffer::read_gate(lines, b, r);
+    let h = super::buffer::read_gate(b, r);
     if super::fitting::fits_pair(h, g) {
         return p;
     }
@@ -40,15 +40,15 @@ fn look_again(lines: u8, b: &[u8], m: usize, p: usize, g: Gate, r: usize, c: usi
 }
 
 // Gate p is to become g: the rows before it are looked at again, and its own starts anew.
-pub fn settle_rows(lines: u8, b: &[u8], far: &mut [usize], m: usize, p: usize, g: Gate)
-    requires { ⌜ Holds lines (now b) (gatesIn (now b) m) ⌝ }
+pub fn settle_rows(b: &[u8], far: &mut [usize], m: usize, p: usize, g: Gate)
+    requires { ⌜ Holds (now b) (gatesIn (now b) m) ⌝ }
     requires { ⌜ (p < m) × (g .target < 6) × Known (gatesIn (now b) m) (now far) ⌝ }
     ensures { λ _. ⌜ Known (set (gatesIn (now (b .entry)) m) p g) (now (far .exit)) ⌝ }
 {
     let mut r: usize = 0;
     while r < p {
         let c = far[r];
-        far[r] = look_again(lines, b, m, p, g, r, c);
+        far[r] = look_again(b, m, p, g, r, c);
         r = r + 1;
     }
     far[p] = p + 1;

@@ -1,7 +1,5 @@
 // The search for the first open pair that fits a rule.
-ghost use mathlib.Core.Path.{_≡_};
-ghost use Prim.Native.Nat.{_*_, _≤_, _<_};
-ghost use lib.ListN.{length};
+ghost use Prim.Native.Nat.{_<_};
 ghost use Rattle.tidying.specs.Buffers.{gatesIn, Holds};
 ghost use Rattle.tidying.specs.Rows.{Known, FirstAt};
 
@@ -12,8 +10,8 @@ pub struct Pair {
 }
 
 // The smallest i that has a fitting open pair, then the smallest j; i is m where there is none. A row goes on from where it is known to be clear.
-pub fn find_pair(lines: u8, b: &[u8], far: &mut [usize], m: usize) -> Pair
-    requires { ⌜ Holds lines (now b) (gatesIn (now b) m) ⌝ }
+pub fn find_pair(b: &[u8], far: &mut [usize], m: usize) -> Pair
+    requires { ⌜ Holds (now b) (gatesIn (now b) m) ⌝ }
     requires { ⌜ Known (gatesIn (now b) m) (now far) ⌝ }
     ensures { λ r. ⌜ FirstAt (gatesIn (now (b .entry)) m) (r .i) (r .j) ⌝ }
     ensures { λ r. ⌜ Known (gatesIn (now (b .entry)) m) (now (far .exit)) ⌝ }
@@ -21,10 +19,10 @@ pub fn find_pair(lines: u8, b: &[u8], far: &mut [usize], m: usize) -> Pair
     let mut i: usize = 0;
     let mut j: usize = 0;
     'rows: while i < m {
-        let g = super::buffer::read_gate(lines, b, i);
+        let g = super::buffer::read_gate(b, i);
         j = far[i];
         while j < m {
-            let h = super::buffer::read_gate(lines, b, j);
+            let h = super::buffer::read_gate(b, j);
             if super::fitting::fits_pair(g, h) {
                 break 'rows;
             }

@@ -1,13 +1,14 @@
 -- `tidying::tidy` meets its contract: a refusal is that of checking, and else the records are tidied where they lie. Assumes nothing.
 use mathlib.Core.Path.{_≡_, sym, ap, ap₂, _∙_}
-use mathlib.Core.List.{List, [], _∷_}
+use mathlib.Core.List.{[], _∷_}
 use Prim.Native.Nat.{ℕ}
-use Rattle.card.specs.Card.{Answer, Answer.accepted}
+use Rattle.card.specs.Card.{Answer.accepted}
 use Rattle.card.proofs.Cards.{refused-both, accepted-both}
 use Rattle.cascades.specs.Cascades.{records, Whole}
 use Rattle.cascades.specs.Answers.{countedAs}
 use Rattle.cascades.proofs.Answers.{passed, check-whole, check-count, check-refused}
 use Rattle.tidying.specs.Tidying.{tidyAnswer, tidyBuffer}
+use Rattle.tidying.proofs.Buffers.{holds-start}
 use borrow.Author.Needs.{needs}
 use Rattle.tidying.proofs.tidy.Statement.{statement}
 use Rattle.tidying.proofs.tidy.Tie as tie
@@ -30,7 +31,9 @@ enum-known-m : tie.Need-enum-known-m
 enum-known-m c = search needs
 
 tidy-records-requires : tie.Need-tidy-records-requires
-tidy-records-requires c κs = rw (count (c .before)) (whole (c .before))
+tidy-records-requires c κs =
+    let w = whole (c .before) in
+    (holds-start _ _ _ w, (rw (count (c .before)) (w .size), rw (count (c .before)) (w .most)))
 
 same-length : tie.Need-same-length
 same-length c = search needs

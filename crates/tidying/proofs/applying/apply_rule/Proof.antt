@@ -1,20 +1,20 @@
 -- `tidying::applying::apply_rule` meets its contract: each branch is a case of `ruled`, on the gates that the records read as. Assumes nothing.
 use mathlib.Core.Path.{_≡_, sym, ap, ap₂, _∙_}
-use mathlib.Core.Bool.{Bool, true, false}
+use mathlib.Core.Bool.{true}
 use mathlib.Core.List.{List}
-use Prim.Native.Nat.{ℕ, _+_, _-_, _^_, _<_}
+use Prim.Native.Nat.{ℕ, _-_, _<_}
 use native.Mathlib.Omega.{arith}
 use lib.ListN.{length, set, length-set}
 use Rattle.gates.specs.declared.Gate.{Gate}
 use Rattle.gates.specs.Gates.{inverse, IsGate}
 use Rattle.gates.proofs.Gates.{inverse-gate}
-use Rattle.tidying.specs.Rules.{cancels, merges, reduces, fits, loosened, retuned}
+use Rattle.tidying.specs.Rules.{cancels, merges, reduces, loosened, retuned}
 use Rattle.tidying.specs.Tidying.{gate, without}
 use Rattle.tidying.specs.Buffers.{gatesIn}
 use Rattle.tidying.proofs.Rules.{reduction, loosened-gate, retuned-gate}
 use Rattle.tidying.proofs.Steps.{ruled-cancel, ruled-merge, ruled-reduce, last-rule}
 use Rattle.tidying.proofs.Removals.{length-without}
-use Rattle.tidying.proofs.Buffers.{length-gates, gate-in, holds-fits, holds-gate, holds-record}
+use Rattle.tidying.proofs.Buffers.{length-gates, gate-in, holds-fits, holds-gate, holds-lines}
 use borrow.Author.Needs.{needs}
 use Rattle.tidying.proofs.applying.apply_rule.Statement.{statement}
 use Rattle.tidying.proofs.applying.apply_rule.Tie as tie
@@ -60,11 +60,11 @@ module _ (c : tie.After-read-gate2) where
   second-is : c .read-gate2 .result ≡ second (c .before .before .before .before .before .before)
   second-is = c .read-gate2 .ensures ∙ sym (gate-in (c .before .before .before .before .before .before .args .b .now) (c .before .before .before .before .before .before .args .m) (c .before .before .before .before .before .before .args .j) (c .before .before .before .before .before .before .pre .1 .1))
 
-  first-ok : IsGate (c .before .before .before .before .before .before .args .lines) (c .before .before .read-gate .result)
-  first-ok = rw first-is (holds-gate _ _ _ (c .before .before .before .before .before .before .pre .0) _ (i-inside (c .before .before .before .before .before .before)))
+  first-ok : IsGate 6 (c .before .before .read-gate .result)
+  first-ok = rw first-is (holds-gate _ _ (c .before .before .before .before .before .before .pre .0) _ (i-inside (c .before .before .before .before .before .before)))
 
-  second-ok : IsGate (c .before .before .before .before .before .before .args .lines) (c .read-gate2 .result)
-  second-ok = rw second-is (holds-gate _ _ _ (c .before .before .before .before .before .before .pre .0) _ (j-inside (c .before .before .before .before .before .before)))
+  second-ok : IsGate 6 (c .read-gate2 .result)
+  second-ok = rw second-is (holds-gate _ _ (c .before .before .before .before .before .before .pre .0) _ (j-inside (c .before .before .before .before .before .before)))
 
 -- what the tests say of it
 module _ (c : tie.After-cancels-pair) where
@@ -81,22 +81,23 @@ module _ (c : tie.Else2) where
       rw (first-is (c .before .before .before .before), second-is (c .before .before .before .before))
       (last-rule _ _ (c .before .before .before .before .before .before .before .before .before .before .pre .1 .3) (cancels-is (c .before .before .before) ∙ c .before .before .if1 .left) (merges-is (c .before) ∙ c .if2 .left))
 
-module _ (c : tie.After-retune) where
-  loose-is : c .before .loosen .result ≡ loosened (first (c .before .before .before .before .before .before .before .before .before .before .before .before)) (second (c .before .before .before .before .before .before .before .before .before .before .before .before))
-  loose-is = c .before .loosen .ensures ∙ ap₂ loosened (first-is (c .before .before .before .before .before .before)) (second-is (c .before .before .before .before .before .before))
+-- what control reduction makes of it
+module _ (c : tie.After-reduce-pair) where
+  loose-is : c .reduce-pair .result .first ≡ loosened (first (c .before .before .before .before .before .before .before .before .before .before .before)) (second (c .before .before .before .before .before .before .before .before .before .before .before))
+  loose-is = c .reduce-pair .ensures .0 ∙ ap₂ loosened (first-is (c .before .before .before .before .before)) (second-is (c .before .before .before .before .before))
 
-  tuned-is : c .retune .result ≡ retuned (first (c .before .before .before .before .before .before .before .before .before .before .before .before)) (second (c .before .before .before .before .before .before .before .before .before .before .before .before))
-  tuned-is = c .retune .ensures ∙ ap₂ retuned (first-is (c .before .before .before .before .before .before)) (second-is (c .before .before .before .before .before .before))
+  tuned-is : c .reduce-pair .result .second ≡ retuned (first (c .before .before .before .before .before .before .before .before .before .before .before)) (second (c .before .before .before .before .before .before .before .before .before .before .before))
+  tuned-is = c .reduce-pair .ensures .1 ∙ ap₂ retuned (first-is (c .before .before .before .before .before)) (second-is (c .before .before .before .before .before))
 
 read-gate-requires : tie.Need-read-gate-requires
 read-gate-requires c κs =
     let s = c .before .before .before in
-    (s .pre .0 .lines, holds-record _ _ _ (s .pre .0) _ (i-inside s), holds-fits _ _ _ (s .pre .0) _ (i-inside s))
+    (holds-fits _ _ (s .pre .0) _ (i-inside s), holds-lines _ _ (s .pre .0) _ (i-inside s))
 
 read-gate-requires-2 : tie.Need-read-gate-requires-2
 read-gate-requires-2 c κs =
     let s = c .before .before .before .before .before in
-    (s .pre .0 .lines, holds-record _ _ _ (s .pre .0) _ (j-inside s), holds-fits _ _ _ (s .pre .0) _ (j-inside s))
+    (holds-fits _ _ (s .pre .0) _ (j-inside s), holds-lines _ _ (s .pre .0) _ (j-inside s))
 
 cancels-pair-requires : tie.Need-cancels-pair-requires
 cancels-pair-requires c κs = search needs
@@ -148,26 +149,27 @@ returns-2 c =
     let s = c .before .before .before .before .before .before .before .before .before .before .before .before .before .before .before .before .before .before in
     let e = ruled-merge (given s) (s .args .i) (s .args .j) (cancels-is (c .before .before .before .before .before .before .before .before .before .before .before) ∙ c .before .before .before .before .before .before .before .before .before .before .if1 .left) (merges-is (c .before .before .before .before .before .before .before .before .before) ∙ c .before .before .before .before .before .before .before .before .if2 .taken) in
     let h : c .before .before .before .before .before .invert .result ≡ inverse (second (c .before .before .before .before .before .before .before .before .before .before .before .before .before .before .before .before .before .before)) = c .before .before .before .before .before .invert .ensures ∙ ap inverse (second-is (c .before .before .before .before .before .before .before .before .before .before .before .before)) in (
-      (rw (e, ← h) (d .take-one .ensures .0), rw e (one-left (given s) (s .args .m) (s .args .i) (s .args .j) (inverse (second s)) (count s) (s .pre .1 .0) (s .pre .1 .1))),
+      (
+        rw (e, ← h) (d .take-one .ensures .0),
+        rw e (one-left (given s) (s .args .m) (s .args .i) (s .args .j) (inverse (second s)) (count s) (s .pre .1 .0) (s .pre .1 .1)),
+      ),
       rw (e, ← h) (d .take-one .ensures .1),
     )
 
-loosen-requires : tie.Need-loosen-requires
-loosen-requires c κs = (reduces-is c, first-ok (c .before .before .before .before) .packed)
-
-retune-requires : tie.Need-retune-requires
-retune-requires c κs = (reduces-is (c .before), second-ok (c .before .before .before .before .before) .packed)
+reduce-pair-requires : tie.Need-reduce-pair-requires
+reduce-pair-requires c κs = (reduces-is c, first-ok (c .before .before .before .before) .packed, second-ok (c .before .before .before .before) .packed)
 
 replace-both-requires : tie.Need-replace-both-requires
 replace-both-requires c κs =
-    let s = c .before .before .before .before .before .before .before .before .before .before .before .before .before .before in
-    let r = reduction _ _ (reduces-is (c .before .before .before .before)) in (
+    let s = c .before .before .before .before .before .before .before .before .before .before .before .before .before in
+    let d = c .before .before in
+    let r = reduction _ _ (reduces-is (c .before .before .before)) in (
       s .pre .0,
       (
         s .pre .1 .0,
         s .pre .1 .1,
-        rw (c .before .before .before .loosen .ensures) (loosened-gate _ _ r _ (first-ok (c .before .before .before .before .before .before .before .before))),
-        rw (c .before .before .retune .ensures) (retuned-gate _ _ r _ (second-ok (c .before .before .before .before .before .before .before .before))),
+        rw (d .reduce-pair .ensures .0) (loosened-gate _ _ r _ (first-ok (c .before .before .before .before .before .before .before))),
+        rw (d .reduce-pair .ensures .1) (retuned-gate _ _ r _ (second-ok (c .before .before .before .before .before .before .before))),
         s .pre .1 .4,
       ),
     )
@@ -181,8 +183,8 @@ same-length-6 c = search needs
 returns-3 : tie.Need-returns-3
 returns-3 c =
     let d = c .before .before .before .before in
-    let s = c .before .before .before .before .before .before .before .before .before .before .before .before .before .before .before .before .before .before .before in
-    let e = ruled-reduce (given s) (s .args .i) (s .args .j) (cancels-is (c .before .before .before .before .before .before .before .before .before .before .before .before) ∙ c .before .before .before .before .before .before .before .before .before .before .before .if1 .left) (merges-is (c .before .before .before .before .before .before .before .before .before .before) ∙ c .before .before .before .before .before .before .before .before .before .if2 .left) in (
+    let s = c .before .before .before .before .before .before .before .before .before .before .before .before .before .before .before .before .before .before in
+    let e = ruled-reduce (given s) (s .args .i) (s .args .j) (cancels-is (c .before .before .before .before .before .before .before .before .before .before .before) ∙ c .before .before .before .before .before .before .before .before .before .before .if1 .left) (merges-is (c .before .before .before .before .before .before .before .before .before) ∙ c .before .before .before .before .before .before .before .before .if2 .left) in (
       (rw (e, ← loose-is (c .before .before .before .before .before .before .before), ← tuned-is (c .before .before .before .before .before .before .before)) (d .replace-both .ensures .0), rw (e, length-set, length-set) (sym (count s))),
       rw (e, ← loose-is (c .before .before .before .before .before .before .before), ← tuned-is (c .before .before .before .before .before .before .before)) (d .replace-both .ensures .1),
     )
@@ -206,8 +208,7 @@ apply-rule-spec =
     same-length-3
     same-length-4
     returns-2
-    loosen-requires
-    retune-requires
+    reduce-pair-requires
     replace-both-requires
     same-length-5
     same-length-6

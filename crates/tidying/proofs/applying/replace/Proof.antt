@@ -1,10 +1,7 @@
 -- `tidying::applying::replace` meets its contract: the rows are settled for the new gate, and then it is stored. Assumes nothing.
-use mathlib.Core.Path.{_≡_, sym}
-use mathlib.Core.List.{List}
-use Prim.Native.Nat.{ℕ, _+_, _*_, _<_, _≤_}
+use Prim.Native.Nat.{_+_, _*_, _<_, _≤_}
 use native.Mathlib.Omega.{arith}
 use lib.ListN.{length}
-use Rattle.card.proofs.Cards.{lines-are}
 use Rattle.tidying.specs.Buffers.{gatesIn}
 use Rattle.tidying.proofs.Buffers.{length-gates, holds-fits, holds-set}
 use borrow.Author.Needs.{needs}
@@ -16,11 +13,10 @@ module _ (c : tie.Start) where
   inside = rw (length-gates (c .args .b .now) (c .args .m)) (c .pre .1 .0)
 
   fits : 8 * c .args .p + 8 ≤ length (c .args .b .now)
-  fits = holds-fits _ _ _ (c .pre .0) _ inside
+  fits = holds-fits _ _ (c .pre .0) _ inside
 
 settle-rows-requires : tie.Need-settle-rows-requires
 settle-rows-requires c κs =
-    let six = lines-are _ (c .before .before .before .before .pre .0 .lines) .1 in
     (c .before .before .before .before .pre .0, (c .before .before .before .before .pre .1 .0, omega (arith, c .before .before .before .before .pre .1 .1 .on-line), c .before .before .before .before .pre .1 .2))
 
 mul-encode : tie.Need-mul-encode
@@ -36,7 +32,7 @@ same-length-2 : tie.Need-same-length-2
 same-length-2 c = search needs
 
 returns : tie.Need-returns
-returns c = (rw (c .before .before .encode .ensures) (holds-set _ _ _ _ _ (c .before .before .before .before .before .before .before .before .before .before .before .pre .0) (inside (c .before .before .before .before .before .before .before .before .before .before .before)) (c .before .before .before .before .before .before .before .before .before .before .before .pre .1 .1)), c .before .before .before .before .before .before .settle-rows .ensures)
+returns c = (rw (c .before .before .encode .ensures) (holds-set _ _ _ _ (c .before .before .before .before .before .before .before .before .before .before .before .pre .0) (inside (c .before .before .before .before .before .before .before .before .before .before .before)) (c .before .before .before .before .before .before .before .before .before .before .before .pre .1 .1)), c .before .before .before .before .before .before .settle-rows .ensures)
 
 pub replace-spec : {M : Type 1} → statement M
 replace-spec =

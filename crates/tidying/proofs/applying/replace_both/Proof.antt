@@ -1,8 +1,7 @@
 -- `tidying::applying::replace_both` meets its contract: one gate after the other. Assumes nothing.
-use mathlib.Core.Path.{_≡_, sym, _∙_}
-use Prim.Native.Nat.{ℕ, _+_, _-_, _<_}
+use mathlib.Core.Path.{_≡_, _∙_}
 use native.Mathlib.Omega.{arith}
-use lib.ListN.{length, set, length-set}
+use lib.ListN.{set, length-set}
 use Rattle.tidying.specs.Buffers.{gatesIn}
 use Rattle.tidying.proofs.Buffers.{length-gates, holds-list}
 use borrow.Author.Needs.{needs}
@@ -11,9 +10,9 @@ use Rattle.tidying.proofs.applying.replace_both.Tie as tie
 
 -- the buffer after the first
 module _ (c : tie.After-replace) where
-  again : gatesIn (c .replace .last .1 .0) (c .before .before .before .before .before .args .m) ≡ set (gatesIn (c .before .before .before .before .before .args .b .now) (c .before .before .before .before .before .args .m)) (c .before .before .before .before .before .args .i) (c .before .before .before .before .before .args .g)
+  again : gatesIn (c .replace .last .0) (c .before .before .before .before .before .args .m) ≡ set (gatesIn (c .before .before .before .before .before .args .b .now) (c .before .before .before .before .before .args .m)) (c .before .before .before .before .before .args .i) (c .before .before .before .before .before .args .g)
   again =
-      holds-list _ _ _ _ (c .replace .ensures .0)
+      holds-list _ _ _ (c .replace .ensures .0)
       (length-set (gatesIn (c .before .before .before .before .before .args .b .now) (c .before .before .before .before .before .args .m)) (c .before .before .before .before .before .args .i) (c .before .before .before .before .before .args .g) ∙ length-gates (c .before .before .before .before .before .args .b .now) (c .before .before .before .before .before .args .m))
 
 replace-requires : tie.Need-replace-requires

@@ -1,6 +1,6 @@
 -- `tidying::applying::take_both` meets its contract: the later gate goes first, so the earlier one keeps its place. Assumes nothing.
-use mathlib.Core.Path.{_≡_, sym, _∙_}
-use Prim.Native.Nat.{ℕ, _+_, _-_, _<_}
+use mathlib.Core.Path.{_≡_}
+use Prim.Native.Nat.{_-_}
 use native.Mathlib.Omega.{arith}
 use lib.ListN.{length}
 use Rattle.tidying.specs.Tidying.{without}
@@ -19,8 +19,8 @@ module _ (c : tie.After-take-out) where
       let gone = length-without (gatesIn (c .before .before .before .before .before .args .b .now) (c .before .before .before .before .before .args .m)) (c .before .before .before .before .before .args .j) (omega (arith, c .before .before .before .before .before .pre .1 .1)) in
       omega arith
 
-  again : gatesIn (c .take-out .last .1 .0) (c .before .before .before .before .before .args .m - 1) ≡ without (gatesIn (c .before .before .before .before .before .args .b .now) (c .before .before .before .before .before .args .m)) (c .before .before .before .before .before .args .j)
-  again = holds-list _ _ _ _ (c .take-out .ensures .0) left
+  again : gatesIn (c .take-out .last .0) (c .before .before .before .before .before .args .m - 1) ≡ without (gatesIn (c .before .before .before .before .before .args .b .now) (c .before .before .before .before .before .args .m)) (c .before .before .before .before .before .args .j)
+  again = holds-list _ _ _ (c .take-out .ensures .0) left
 
 take-out-requires : tie.Need-take-out-requires
 take-out-requires c κs = (c .before .before .before .before .pre .0, (c .before .before .before .before .pre .1 .1, c .before .before .before .before .pre .1 .2, c .before .before .before .before .pre .1 .3))

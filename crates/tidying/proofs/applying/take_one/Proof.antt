@@ -1,8 +1,7 @@
 -- `tidying::applying::take_one` meets its contract: the later gate is replaced first, so the earlier one keeps its place. Assumes nothing.
-use mathlib.Core.Path.{_≡_, sym, _∙_}
-use Prim.Native.Nat.{ℕ, _+_, _-_, _<_}
+use mathlib.Core.Path.{_≡_, _∙_}
 use native.Mathlib.Omega.{arith}
-use lib.ListN.{length, set, length-set}
+use lib.ListN.{set, length-set}
 use Rattle.tidying.specs.Buffers.{gatesIn}
 use Rattle.tidying.proofs.Buffers.{length-gates, holds-list}
 use borrow.Author.Needs.{needs}
@@ -11,9 +10,9 @@ use Rattle.tidying.proofs.applying.take_one.Tie as tie
 
 -- the buffer after the first
 module _ (c : tie.After-replace) where
-  again : gatesIn (c .replace .last .1 .0) (c .before .before .before .before .before .args .m) ≡ set (gatesIn (c .before .before .before .before .before .args .b .now) (c .before .before .before .before .before .args .m)) (c .before .before .before .before .before .args .j) (c .before .before .before .before .before .args .h)
+  again : gatesIn (c .replace .last .0) (c .before .before .before .before .before .args .m) ≡ set (gatesIn (c .before .before .before .before .before .args .b .now) (c .before .before .before .before .before .args .m)) (c .before .before .before .before .before .args .j) (c .before .before .before .before .before .args .h)
   again =
-      holds-list _ _ _ _ (c .replace .ensures .0)
+      holds-list _ _ _ (c .replace .ensures .0)
       (length-set (gatesIn (c .before .before .before .before .before .args .b .now) (c .before .before .before .before .before .args .m)) (c .before .before .before .before .before .args .j) (c .before .before .before .before .before .args .h) ∙ length-gates (c .before .before .before .before .before .args .b .now) (c .before .before .before .before .before .args .m))
 
 replace-requires : tie.Need-replace-requires

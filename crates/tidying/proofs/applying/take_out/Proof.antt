@@ -1,7 +1,5 @@
 -- `tidying::applying::take_out` meets its contract: records and rows behind p move one place down. Assumes nothing.
-use mathlib.Core.Path.{_≡_, sym, subst}
-use mathlib.Core.List.{List}
-use Prim.Native.Nat.{ℕ, _+_, _*_, _<_, _≤_}
+use mathlib.Core.Path.{_≡_}
 use native.Mathlib.Omega.{arith}
 use lib.ListN.{length}
 use Rattle.tidying.specs.Buffers.{gatesIn}
@@ -29,7 +27,7 @@ same-length-2 c = search needs
 
 returns : tie.Need-returns
 returns c = (
-  holds-without _ _ _ _ _ _ (count (c .before .before .before .before .before .before .before .before .before .before)) (c .before .before .before .before .before .before .before .before .before .before .pre .1 .0) (c .before .before .before .before .before .before .before .before .before .before .pre .0) (c .before .before .before .before .before .before .close-up .ensures),
+  holds-without _ _ _ _ _ (count (c .before .before .before .before .before .before .before .before .before .before)) (c .before .before .before .before .before .before .before .before .before .before .pre .1 .0) (c .before .before .before .before .before .before .before .before .before .before .pre .0) (c .before .before .before .before .before .before .close-up .ensures),
   rw (c .before .before .close-rows .ensures) (known-without _ _ _ _ (count (c .before .before .before .before .before .before .before .before .before .before)) (c .before .before .before .before .before .before .before .before .before .before .pre .1 .0) (c .before .before .before .before .before .before .before .before .before .before .pre .1 .2)),
 )
 

@@ -4,7 +4,7 @@ use mathlib.Core.List.{List, _++_, append-nil}
 use Prim.Native.Nat.{ℕ, suc, _+_, _-_, _≤_, _<_}
 use native.Mathlib.Nat.{sub-self}
 use native.Mathlib.Omega.{arith}
-use lib.ListN.{length, getD, set, take, drop, replicate, length-set, length-replicate, getD-replicate, drop-of-length-le}
+use lib.ListN.{length, getD, set, take, replicate, length-set, length-replicate, getD-replicate, drop-of-length-le}
 use lib.Seq.{paste, paste-zero, paste-suc, length-paste, take-all}
 use borrow.Author.Needs.{needs}
 use Rattle.tidying.proofs.buffer.clear_from.Statement.{statement}

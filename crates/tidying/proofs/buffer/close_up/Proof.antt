@@ -1,8 +1,6 @@
 -- `tidying::buffer::close_up` meets its contract: the bytes behind record p move down, up to x. Assumes nothing.
-use mathlib.Core.Path.{_≡_}
-use Prim.Native.Nat.{ℕ, _+_, _-_, _*_, _≤_, _<_}
+use Prim.Native.Nat.{_-_}
 use native.Mathlib.Omega.{arith}
-use lib.ListN.{length, length-set}
 use borrow.Author.Needs.{needs}
 use Rattle.tidying.proofs.Buffers.{Moving, moving-start, moving-next, moving-end}
 use Rattle.tidying.proofs.buffer.close_up.Statement.{statement}

@@ -1,36 +1,31 @@
--- `tidying::controls::control_on` meets its contract: one case for each line. Assumes nothing.
-use mathlib.Core.Path.{_≡_}
-use native.Mathlib.Nat.{div-one}
+-- `tidying::controls::control_on` meets its contract: two bits to a line are a digit in base 4. Assumes nothing.
+use mathlib.Core.Path.{_≡_, refl}
+use Prim.Native.Nat.{ℕ, zero, suc, _*_, _^_}
+use native.Mathlib.Nat.{pow-suc}
 use native.Mathlib.Omega.{arith}
 use Rattle.digits.specs.Digits.{digit}
+use borrow.Author.Needs.{needs}
 use Rattle.tidying.proofs.controls.control_on.Statement.{statement}
 use Rattle.tidying.proofs.controls.control_on.Tie as tie
 
+two-bits : (k : ℕ) → 2 ^ (2 * k) ≡ 4 ^ k
+two-bits zero = refl
+two-bits (suc k) =
+    let e : 2 * suc k ≡ suc (suc (2 * k)) = omega arith in
+    rw (e, pow-suc, pow-suc, pow-suc 4 k, two-bits k) (omega arith)
+
+mul-result : tie.Need-mul-result
+mul-result c = search needs
+
+cast-result : tie.Need-cast-result
+cast-result c = search needs
+
+shr-result : tie.Need-shr-result
+shr-result c = search needs
+
 returns : tie.Need-returns
 unfolding digit
-returns c = rw (c .match .keys1, div-one)
-
-returns-2 : tie.Need-returns-2
-unfolding digit
-returns-2 c = rw (c .match .keys2)
-
-returns-3 : tie.Need-returns-3
-unfolding digit
-returns-3 c = rw (c .match .keys3)
-
-returns-4 : tie.Need-returns-4
-unfolding digit
-returns-4 c = rw (c .match .keys4)
-
-returns-5 : tie.Need-returns-5
-unfolding digit
-returns-5 c = rw (c .match .keys5)
-
-returns-6 : tie.Need-returns-6
-unfolding digit
-returns-6 c =
-    let e : c .before .args .k ≡ 5 = omega arith in
-    rw e
+returns c = rw two-bits
 
 pub control-on-spec : {M : Type 1} → statement M
-control-on-spec = tie.close (tie.spec returns returns-2 returns-3 returns-4 returns-5 returns-6)
+control-on-spec = tie.close (tie.spec mul-result cast-result shr-result returns)

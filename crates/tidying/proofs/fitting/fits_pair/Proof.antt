@@ -1,7 +1,6 @@
 -- `tidying::fitting::fits_pair` meets its contract: the three rules by the number of lines on which the controls differ. Assumes nothing.
 use mathlib.Core.Path.{_≡_, refl, sym, _∙_}
 use mathlib.Core.Bool.{Bool, true, false, _||_}
-use lib.Dec.{eqb}
 use borrow.Author.Tests.{eq-eqb, ne-eqb, not-true, not-false}
 use Rattle.tidying.specs.Rules.{differAt, differences, cancels, merges, reduces, fits}
 use borrow.Author.Needs.{needs}

@@ -1,11 +1,10 @@
 -- `tidying::memory::close_rows` meets its contract: the array is filled from its start on, from numbers that are still as they were. Assumes nothing.
-use mathlib.Core.Path.{_≡_, refl, sym, ap, _∙_}
+use mathlib.Core.Path.{_≡_, ap, _∙_}
 use mathlib.Core.List.{List}
 use Prim.Native.Nat.{ℕ, _+_, _-_, _≤_, _<_}
 use native.Mathlib.Omega.{arith}
 use lib.ListN.{length, getD}
 use borrow.Author.Needs.{needs}
-use Rattle.ranges.specs.Ranges.{span}
 use Rattle.ranges.proofs.Fills.{filled, Filling, filling-start, filling-length, filling-next}
 use Rattle.ranges.proofs.Changes.{filled-rest}
 use Rattle.tidying.specs.Buffers.{stood}

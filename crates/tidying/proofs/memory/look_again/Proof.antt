@@ -1,16 +1,14 @@
 -- `tidying::memory::look_again` meets its contract: the row does not reach p, or its pair with the new gate is looked at. Assumes nothing.
 use mathlib.Core.Path.{_≡_, sym, ap, _∙_}
-use mathlib.Core.Bool.{true, false}
-use Prim.Native.Nat.{ℕ, _<_, _≤_}
+use Prim.Native.Nat.{_<_}
 use native.Mathlib.Omega.{arith}
 use lib.ListN.{length}
-use Rattle.card.proofs.Cards.{lines-are}
 use Rattle.gates.specs.declared.Gate.{Gate}
 use Rattle.tidying.specs.Places.{mayChange}
 use Rattle.tidying.specs.Rules.{fits}
 use Rattle.tidying.specs.Tidying.{gate}
 use Rattle.tidying.specs.Buffers.{gatesIn}
-use Rattle.tidying.proofs.Buffers.{length-gates, gate-in, holds-fits, holds-gate, holds-record}
+use Rattle.tidying.proofs.Buffers.{length-gates, gate-in, holds-fits, holds-gate, holds-lines}
 use Rattle.tidying.proofs.Rows.{again-near, again-quiet, again-cut}
 use borrow.Author.Needs.{needs}
 use Rattle.tidying.proofs.memory.look_again.Statement.{statement}
@@ -32,7 +30,7 @@ returns c =
     again-near _ _ _ _ _ (rw (length-gates (c .before .before .args .b .now) (c .before .before .args .m)) (c .before .before .pre .1 .1)) (c .before .before .pre .1 .0) (c .before .before .pre .1 .3) (c .if1 .taken)
 
 read-gate-requires : tie.Need-read-gate-requires
-read-gate-requires c κs = (c .before .before .pre .0 .lines, holds-record _ _ _ (c .before .before .pre .0) _ (inside c), holds-fits _ _ _ (c .before .before .pre .0) _ (inside c))
+read-gate-requires c κs = (holds-fits _ _ (c .before .before .pre .0) _ (inside c), holds-lines _ _ (c .before .before .pre .0) _ (inside c))
 
 fits-pair-requires : tie.Need-fits-pair-requires
 fits-pair-requires c κs = search needs
@@ -42,8 +40,7 @@ returns-2 c = again-cut _ _ _ _ _ (p-inside (c .before .before .before)) (c .bef
 
 may-change-requires : tie.Need-may-change-requires
 may-change-requires c κs =
-    let six = lines-are _ (c .before .before .before .before .before .pre .0 .lines) .1 in
-    let ok = holds-gate _ _ _ (c .before .before .before .before .before .pre .0) _ (inside (c .before .before .before)) in
+    let ok = holds-gate _ _ (c .before .before .before .before .before .pre .0) _ (inside (c .before .before .before)) in
     (rw (row-gate (c .before .before)) (omega (arith, ok .on-line)), c .before .before .before .before .before .pre .1 .2)
 
 returns-3 : tie.Need-returns-3

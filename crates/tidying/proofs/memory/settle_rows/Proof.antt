@@ -1,6 +1,5 @@
 -- `tidying::memory::settle_rows` meets its contract: the rows before r are looked at again, the others are as they were. Assumes nothing.
-use mathlib.Core.Path.{_≡_, sym, ap, _∙_}
-use Prim.Native.Nat.{ℕ, _+_, _-_, _*_, _<_, _≤_}
+use Prim.Native.Nat.{_-_, _*_, _<_, _≤_}
 use native.Mathlib.Omega.{arith}
 use lib.ListN.{length, length-set}
 use borrow.Author.Needs.{needs}
@@ -11,10 +10,10 @@ use Rattle.tidying.proofs.memory.settle_rows.Statement.{statement}
 use Rattle.tidying.proofs.memory.settle_rows.Tie as tie
 
 abbrev Inv-loop : tie.InvT-loop
-Inv-loop lines b far₀ m p g r₀ far r = Settling (gatesIn b m) p g far₀ far r
+Inv-loop b far₀ m p g r₀ far r = Settling (gatesIn b m) p g far₀ far r
 
 abbrev μ-loop : tie.MeasureT-loop
-μ-loop lines b far₀ m p g r₀ far r = p - r
+μ-loop b far₀ m p g r₀ far r = p - r
 
 module _ (c : tie.At-loop Inv-loop μ-loop) where
   p-inside : c .before .before .before .args .p < length (gatesIn (c .before .before .before .args .b .now) (c .before .before .before .args .m))

@@ -1,10 +1,8 @@
 -- `tidying::memory::start_rows` meets its contract: the array is filled from its start on. Assumes nothing.
-use mathlib.Core.Path.{_≡_, refl, _∙_}
-use Prim.Native.Nat.{ℕ, _+_, _-_, _≤_, _<_}
+use mathlib.Core.Path.{_≡_, refl}
+use Prim.Native.Nat.{_+_, _-_, _≤_}
 use native.Mathlib.Omega.{arith}
-use lib.ListN.{length}
 use borrow.Author.Needs.{needs}
-use Rattle.ranges.specs.Ranges.{span}
 use Rattle.ranges.proofs.Fills.{filled, Filling, filling-start, filling-length, filling-next}
 use Rattle.tidying.proofs.memory.start_rows.Statement.{statement}
 use Rattle.tidying.proofs.memory.start_rows.Tie as tie

@@ -1,6 +1,6 @@
 -- `tidying::passing::blocks_gate` meets its contract: the control on the target is looked at once. Assumes nothing.
 use mathlib.Core.Path.{sym, _∙_}
-use borrow.Author.Tests.{eq-eqb, ne-eqb}
+use borrow.Author.Tests.{ne-eqb}
 use Rattle.tidying.specs.Places.{blocks}
 use borrow.Author.Needs.{needs}
 use Rattle.tidying.proofs.passing.blocks_gate.Statement.{statement}

@@ -1,7 +1,7 @@
 -- `tidying::passing::upsets_control` meets its contract: one case for each operator. Assumes nothing.
 use mathlib.Core.Path.{_≡_, refl, sym, _∙_}
 use mathlib.Core.Bool.{Bool, true, false, _||_}
-use borrow.Author.Tests.{eq-eqb, ne-eqb}
+use borrow.Author.Tests.{ne-eqb}
 use Rattle.tidying.specs.Places.{isC, upsets}
 use borrow.Author.Needs.{needs}
 use Rattle.tidying.proofs.passing.upsets_control.Statement.{statement}

@@ -1,61 +1,60 @@
 -- `tidying::repeating::repeat_steps` meets its contract: after so many steps the buffer holds what they leave; steps cannot outnumber gates and controls.
 -- Assumes nothing.
-use mathlib.Core.Path.{_≡_, refl, sym, ap, _∙_}
+use mathlib.Core.Path.{_≡_, refl, _∙_}
 use mathlib.Core.List.{List}
-use Prim.Native.Nat.{ℕ, _+_, _-_, _*_, _<_, _≤_}
+use Prim.Native.Nat.{ℕ, _+_, _-_, _*_, _≤_}
 use native.Mathlib.Omega.{arith}
 use lib.ListN.{length}
-use Rattle.gates.specs.declared.Gate.{Gate}
-use Rattle.cascades.specs.Cascades.{records, gatesOf}
+use Rattle.cascades.specs.Cascades.{gatesOf}
 use Rattle.cascades.proofs.Cascades.{gates-count}
 use Rattle.tidying.specs.Tidying.{size}
 use Rattle.tidying.specs.Buffers.{gatesIn}
 use Rattle.tidying.specs.Rows.{FirstAt}
 use Rattle.tidying.proofs.Endings.{afterSteps}
-use Rattle.tidying.proofs.Buffers.{length-gates, holds-start}
+use Rattle.tidying.proofs.Buffers.{length-gates}
 use Rattle.tidying.proofs.Rows.{known-start}
 use Rattle.tidying.proofs.Repetitions.{size-le, pair-first, Going, going-start, going-gates, going-next, going-done}
 use borrow.Author.Needs.{needs}
 use Rattle.tidying.proofs.repeating.repeat_steps.Statement.{statement}
 use Rattle.tidying.proofs.repeating.repeat_steps.Tie as tie
 
-record Invariant (n : ℕ) (b₀ far₀ b far : List ℕ) (left steps : ℕ) : Type 0 where
-  going : Going n (gatesOf b₀) b far left steps
+record Invariant (b₀ far₀ b far : List ℕ) (left steps : ℕ) : Type 0 where
+  going : Going (gatesOf b₀) b far left steps
   len : length b ≡ length b₀
   far-len : length far ≡ length far₀
 
 abbrev Inv-loop : tie.InvT-loop
-Inv-loop lines b₀ far₀ m left₀ steps₀ b far left steps = Invariant lines b₀ far₀ b far left steps
+Inv-loop b₀ far₀ m left₀ steps₀ b far left steps = Invariant b₀ far₀ b far left steps
 
 abbrev μ-loop : tie.MeasureT-loop
-μ-loop lines b₀ far₀ m left₀ steps₀ b far left steps = size (gatesOf b₀) - steps
+μ-loop b₀ far₀ m left₀ steps₀ b far left steps = size (gatesOf b₀) - steps
 
 module _ (s : tie.Start Inv-loop μ-loop) where
   count : length (gatesOf (s .args .b .now)) ≡ s .args .m
-  count = gates-count (s .args .b .now) ∙ omega (arith, s .pre .0 .size)
+  count = gates-count (s .args .b .now) ∙ omega (arith, s .pre .1 .0)
 
 module _ (c : tie.At-loop Inv-loop μ-loop) where
   gates : gatesIn (c .loop .b) (c .loop .left) ≡ afterSteps (c .loop .steps) (gatesOf (c .before .before .before .before .before .before .before .args .b .now))
-  gates = going-gates _ _ _ _ _ _ (c .loop .inv .going)
+  gates = going-gates _ _ _ _ _ (c .loop .inv .going)
 
   room : 8 * c .loop .left ≤ length (c .loop .b)
   room = rw (← c .loop .inv .going .count) (c .loop .inv .going .holds .room)
 
   most : c .loop .left ≤ 8000
-  most = omega (arith, count (c .before .before .before .before .before .before .before), c .loop .inv .going .fewer, c .before .before .before .before .before .before .before .pre .0 .most)
+  most = omega (arith, count (c .before .before .before .before .before .before .before), c .loop .inv .going .fewer, c .before .before .before .before .before .before .before .pre .1 .1)
 
 module _ (c : tie.After-find-pair Inv-loop μ-loop) where
   found : FirstAt (afterSteps (c .before .before .before .loop .steps) (gatesOf (c .before .before .before .before .before .before .before .before .before .before .args .b .now))) (c .find-pair .result .i) (c .find-pair .result .j)
   found = rw (gates (c .before .before .before)) at (c .find-pair .ensures .0)
 
 module _ (c : tie.After-slice-known6 Inv-loop μ-loop) where
-  next : Going (c .before .before .before .before .before .before .before .before .before .before .before .before .before .before .before .before .before .before .before .before .args .lines) (gatesOf (c .before .before .before .before .before .before .before .before .before .before .before .before .before .before .before .before .before .before .before .before .args .b .now)) (c .before .before .before .before .apply-rule .last .1 .0) (c .before .before .before .before .apply-rule .last .1 .1 .0) (c .before .before .before .before .apply-rule .result) (c .before .before .before .before .before .before .before .before .before .before .before .before .before .loop .steps + 1)
+  next : Going (gatesOf (c .before .before .before .before .before .before .before .before .before .before .before .before .before .before .before .before .before .before .before .before .args .b .now)) (c .before .before .before .before .apply-rule .last .0) (c .before .before .before .before .apply-rule .last .1 .0) (c .before .before .before .before .apply-rule .result) (c .before .before .before .before .before .before .before .before .before .before .before .before .before .loop .steps + 1)
   next =
-      going-next _ _ _ _ _ _ (c .before .before .before .before .before .before .before .before .before .before .before .before .before .loop .inv .going) _ _ (found (c .before .before .before .before .before .before .before .before .before .before)) (c .before .before .before .before .before .before .before .if1 .left) _ _ _ (rw (gates (c .before .before .before .before .before .before .before .before .before .before .before .before .before)) at (c .before .before .before .before .apply-rule .ensures .0 .0))
+      going-next _ _ _ _ _ (c .before .before .before .before .before .before .before .before .before .before .before .before .before .loop .inv .going) _ _ (found (c .before .before .before .before .before .before .before .before .before .before)) (c .before .before .before .before .before .before .before .if1 .left) _ _ _ (rw (gates (c .before .before .before .before .before .before .before .before .before .before .before .before .before)) at (c .before .before .before .before .apply-rule .ensures .0 .0))
       (rw (gates (c .before .before .before .before .before .before .before .before .before .before .before .before .before)) at (c .before .before .before .before .apply-rule .ensures .0 .1)) (rw (gates (c .before .before .before .before .before .before .before .before .before .before .before .before .before)) at (c .before .before .before .before .apply-rule .ensures .1))
 
   most-size : size (gatesOf (c .before .before .before .before .before .before .before .before .before .before .before .before .before .before .before .before .before .before .before .before .args .b .now)) ≤ 56000
-  most-size = omega (arith, size-le (gatesOf (c .before .before .before .before .before .before .before .before .before .before .before .before .before .before .before .before .before .before .before .before .args .b .now)), count (c .before .before .before .before .before .before .before .before .before .before .before .before .before .before .before .before .before .before .before .before), c .before .before .before .before .before .before .before .before .before .before .before .before .before .before .before .before .before .before .before .before .pre .0 .most)
+  most-size = omega (arith, size-le (gatesOf (c .before .before .before .before .before .before .before .before .before .before .before .before .before .before .before .before .before .before .before .before .args .b .now)), count (c .before .before .before .before .before .before .before .before .before .before .before .before .before .before .before .before .before .before .before .before), c .before .before .before .before .before .before .before .before .before .before .before .before .before .before .before .before .before .before .before .before .pre .1 .1)
 
 start-rows-requires : tie.Need-start-rows-requires Inv-loop μ-loop
 start-rows-requires c κs = search needs
@@ -65,8 +64,8 @@ loop-holds c =
     let s = c .before .before .before .before .before .before in
     record {
       going =
-          going-start _ _ _ _ _ (count s) (holds-start _ _ _ (s .pre .0))
-          (rw (c .before .before .start-rows .ensures) (known-start _ _ _ (count s) (s .pre .1)));
+          going-start _ _ _ _ (count s) (s .pre .0)
+          (rw (c .before .before .start-rows .ensures) (known-start _ _ _ (count s) (s .pre .1 .2)));
       len = refl;
       far-len = refl;
     }
@@ -98,10 +97,10 @@ loop-again c =
     }
 
 mul-clear-from : tie.Need-mul-clear-from Inv-loop μ-loop
-mul-clear-from c = omega (arith, room (c .before .before .before .before .before .before .before))
+mul-clear-from c = omega (arith, room (c .before .before .before .before .before .before .before), c .before .before .before .before .before .before .before .before .before .before .before .before .before .before .pre .1)
 
 clear-from-requires : tie.Need-clear-from-requires Inv-loop μ-loop
-clear-from-requires c κs = room (c .before .before .before .before .before .before .before)
+clear-from-requires c κs = omega (arith, room (c .before .before .before .before .before .before .before), c .before .before .before .before .before .before .before .loop .inv .len, c .before .before .before .before .before .before .before .before .before .before .before .before .before .before .pre .1)
 
 same-length : tie.Need-same-length Inv-loop μ-loop
 same-length c = c .before .b2 .given ∙ c .before .before .before .before .before .before .before .before .before .before .loop .inv .len
@@ -111,7 +110,7 @@ same-length-2 c = c .before .before .before .before .before .before .far2 .given
 
 returns : tie.Need-returns Inv-loop μ-loop
 returns c =
-    going-done _ _ _ _ _ _ _ _ _ _ (c .before .before .before .before .before .before .before .before .before .before .before .before .before .before .before .before .before .pre .0) (c .before .before .before .before .before .before .before .before .before .before .loop .inv .len) (c .before .before .before .before .before .before .before .before .before .before .loop .inv .going) (found (c .before .before .before .before .before .before .before)) (c .before .before .before .before .if1 .taken) (c .before .before .clear-from .ensures)
+    going-done _ _ _ _ _ _ _ _ _ (c .before .before .before .before .before .before .before .before .before .before .before .before .before .before .before .before .before .pre .1 .0) (c .before .before .before .before .before .before .before .before .before .before .loop .inv .len) (c .before .before .before .before .before .before .before .before .before .before .loop .inv .going) (found (c .before .before .before .before .before .before .before)) (c .before .before .before .before .if1 .taken) (c .before .before .clear-from .ensures)
 
 pub repeat-steps-spec : {M : Type 1} → statement M
 repeat-steps-spec =

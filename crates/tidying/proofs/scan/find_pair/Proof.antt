@@ -2,36 +2,33 @@
 -- with the pair found. Assumes nothing.
 use mathlib.Core.Path.{_≡_, sym, ap₂, _∙_}
 use mathlib.Core.Logic.{⊎-elim}
-use mathlib.Core.Bool.{true, false}
 use mathlib.Core.List.{List}
-use Prim.Native.Nat.{ℕ, _+_, _-_, _*_, _<_, _≤_}
+use Prim.Native.Nat.{ℕ, _-_, _*_, _<_, _≤_}
 use native.Mathlib.Omega.{arith}
 use lib.ListN.{length}
 use borrow.Author.Tests.{not-true, not-false}
 use borrow.Author.Needs.{needs}
-use Rattle.card.proofs.Cards.{lines-are}
-use Rattle.gates.specs.declared.Gate.{Gate}
 use Rattle.tidying.specs.Places.{mayChange}
 use Rattle.tidying.specs.Rules.{fits}
 use Rattle.tidying.specs.Tidying.{gate}
 use Rattle.tidying.specs.Buffers.{gatesIn}
 use Rattle.tidying.specs.Rows.{Clear}
-use Rattle.tidying.proofs.Buffers.{length-gates, gate-in, holds-fits, holds-gate, holds-record}
+use Rattle.tidying.proofs.Buffers.{length-gates, gate-in, holds-fits, holds-gate, holds-lines}
 use Rattle.tidying.proofs.Rows.{Searching, searching-start, searching-next, searching-end, searching-hit, clear-next, row-ends, row-stops}
 use Rattle.tidying.proofs.scan.find_pair.Statement.{statement}
 use Rattle.tidying.proofs.scan.find_pair.Tie as tie
 
 abbrev Inv-loop : tie.InvT-loop
-Inv-loop lines b far m i j₀ g j = Clear (gatesIn b m) i j
+Inv-loop b far m i j₀ g j = Clear (gatesIn b m) i j
 
 abbrev μ-loop : tie.MeasureT-loop
-μ-loop lines b far m i j₀ g j = m - j
+μ-loop b far m i j₀ g j = m - j
 
 abbrev Inv-rows : tie.InvT-rows
-Inv-rows lines b far₀ m i₀ j₀ far i j = Searching (gatesIn b m) far₀ far m i
+Inv-rows b far₀ m i₀ j₀ far i j = Searching (gatesIn b m) far₀ far m i
 
 abbrev μ-rows : tie.MeasureT-rows
-μ-rows lines b far₀ m i₀ j₀ far i j = m - i
+μ-rows b far₀ m i₀ j₀ far i j = m - i
 
 -- a place below m is one of a gate
 below : (b : List ℕ) (m q : ℕ) → q < m → q < length (gatesIn b m)
@@ -68,7 +65,7 @@ rows-holds : tie.Need-rows-holds Inv-loop μ-loop Inv-rows μ-rows
 rows-holds c = searching-start _ _ _ (length-gates _ _) (c .before .before .pre .1)
 
 read-gate-requires : tie.Need-read-gate-requires Inv-loop μ-loop Inv-rows μ-rows
-read-gate-requires c κs = (c .before .before .before .before .pre .0 .lines, holds-record _ _ _ (c .before .before .before .before .pre .0) _ (row-inside c), holds-fits _ _ _ (c .before .before .before .before .pre .0) _ (row-inside c))
+read-gate-requires c κs = (holds-fits _ _ (c .before .before .before .before .pre .0) _ (row-inside c), holds-lines _ _ (c .before .before .before .before .pre .0) _ (row-inside c))
 
 mul-j : tie.Need-mul-j Inv-loop μ-loop Inv-rows μ-rows
 mul-j c = omega (arith, small (c .before))
@@ -82,16 +79,15 @@ loop-holds c = c .before .before .before .rows .inv .known .rows _ (row-inside (
 read-gate-requires-2 : tie.Need-read-gate-requires-2 Inv-loop μ-loop Inv-rows μ-rows
 read-gate-requires-2 c κs =
     let inside = below (c .before .before .before .before .before .before .before .before .args .b .now) (c .before .before .before .before .before .before .before .before .args .m) (c .before .loop .j) (c .loop-test .taken) in
-    (c .before .before .before .before .before .before .before .before .pre .0 .lines, holds-record _ _ _ (c .before .before .before .before .before .before .before .before .pre .0) _ inside, holds-fits _ _ _ (c .before .before .before .before .before .before .before .before .pre .0) _ inside)
+    (holds-fits _ _ (c .before .before .before .before .before .before .before .before .pre .0) _ inside, holds-lines _ _ (c .before .before .before .before .before .before .before .before .pre .0) _ inside)
 
 fits-pair-requires : tie.Need-fits-pair-requires Inv-loop μ-loop Inv-rows μ-rows
 fits-pair-requires c κs = search needs
 
 may-change-requires : tie.Need-may-change-requires Inv-loop μ-loop Inv-rows μ-rows
 may-change-requires c κs =
-    let six = lines-are _ (c .before .before .before .before .before .before .before .before .before .before .before .pre .0 .lines) .1 in
-    let ok-i = holds-gate _ _ _ (c .before .before .before .before .before .before .before .before .before .before .before .pre .0) _ (row-inside (c .before .before .before .before .before .before .before)) in
-    let ok-j = holds-gate _ _ _ (c .before .before .before .before .before .before .before .before .before .before .before .pre .0) _ (below (c .before .before .before .before .before .before .before .before .before .before .before .args .b .now) (c .before .before .before .before .before .before .before .before .before .before .before .args .m) (c .before .before .before .before .loop .j) (c .before .before .before .loop-test .taken)) in
+    let ok-i = holds-gate _ _ (c .before .before .before .before .before .before .before .before .before .before .before .pre .0) _ (row-inside (c .before .before .before .before .before .before .before)) in
+    let ok-j = holds-gate _ _ (c .before .before .before .before .before .before .before .before .before .before .before .pre .0) _ (below (c .before .before .before .before .before .before .before .before .before .before .before .args .b .now) (c .before .before .before .before .before .before .before .before .before .before .before .args .m) (c .before .before .before .before .loop .j) (c .before .before .before .loop-test .taken)) in
     (rw (first-is (c .before .before)) (omega (arith, ok-i .on-line)), rw (second-is (c .before .before)) (omega (arith, ok-j .on-line)))
 
 add-j : tie.Need-add-j Inv-loop μ-loop Inv-rows μ-rows
