@@ -2,13 +2,14 @@
 -- order, with the card's place; and a refused call leaves each lent buffer as it was. Assumes nothing.
 use Prim.Native.Nat.{ℕ, _+_, _*_, _/_, _^_}
 use mathlib.Core.Path.{_≡_, refl, sym, ap, _∙_}
-use mathlib.Core.Bool.{cond, not}
+use mathlib.Core.Bool.{Bool, true, false, cond, not, _&&_}
 use lib.Dec.{eqb}
 use mathlib.Core.Logic.{_↔_}
 use mathlib.Core.List.{List, [], _∷_}
 use lib.ListN.{length}
-use Rattle.card.specs.Card.{Answer, Answer.accepted, Answer.refused, refusing, onLines, after, laid}
+use Rattle.card.specs.Card.{Answer, Answer.accepted, Answer.refused, refusing, linesOk, onLines, after, values}
 use Rattle.tables.specs.Tables.{tabled, checkTableAnswer}
+use Rattle.gates.specs.Records.{isRecord, gateAt}
 use Rattle.cascades.specs.Cascades.{records, gatesOf, ran}
 use Rattle.cascades.specs.Prices.{cascadePrice}
 use Rattle.cascades.specs.Answers.{sound, checkAnswer, runAnswer, tabulateAnswer, tabulateRoom, invertAnswer, invertRoom, priceAnswer}
@@ -16,12 +17,13 @@ use Rattle.synthesis.specs.Synthesis.{bound, synthesized, synthesizeAnswer, syn
 use Rattle.tidying.specs.Tidying.{tidied, tidyAnswer, tidyBuffer}
 use Rattle.choice.specs.Choice.{secondWins, chooseAnswer}
 use Rattle.files.specs.Files.{fileSize, linesIn, count, startOf, trailerAt, recordsOf, framed, writeAnswer, writeRoom, readAnswer, readRecords, readNote}
-use Rattle.files.specs.Readers.{openingAnswer}
+use Rattle.files.specs.Readers.{openingAnswer, recordStands, asGiven, givenAs, givenAt, placeAfter, turnAt}
+use Rattle.files.specs.declared.Given.{Given}
 use Rattle.listings.specs.Listings.{listingText, listingAnswer, listingRoom}
 use Rattle.sheets.specs.Sheets.{linesOf, entriesOf, fileAnswer, sheetText, sheetAnswer, sheetRoom}
 use Rattle.demands.specs.Rows.{Row, decided, FirstIs, NoneApplies}
-use Rattle.demands.specs.Card.{row1, row2, row3, row4, row5, row6, row7, row8, row9, row9-note, row10, row11}
-use Rattle.demands.proofs.Decided.{first-refuses, refused-first, none-accepts, accepted-none}
+use Rattle.demands.specs.Card.{row1, row2, row3, row4, row5, row6, row7, row7-next, row8, row9, row9-note, row10, row11}
+use Rattle.demands.proofs.Decided.{never-both, first-refuses, refused-first, none-accepts, accepted-none}
 
 -- an answer is refusal k at p exactly if the first row that applies is k at p, and it is accepted with these values exactly if none applies
 pub record Exactly (answer : Answer) (rows : List Row) (vs : List ℕ) : Type 0 where
@@ -134,6 +136,32 @@ pub opening : (f : List ℕ)
     → Exactly (openingAnswer f) (row9 f ∷ row1 (linesIn f) ∷ row6 (recordsOf f) ∷ row7 (linesIn f) (recordsOf f) ∷ []) (linesIn f ∷ startOf f ∷ trailerAt f ∷ [])
 unfolding openingAnswer framed onLines sound decided
 opening f = exactly (row9 f ∷ row1 (linesIn f) ∷ row6 (recordsOf f) ∷ row7 (linesIn f) (recordsOf f) ∷ []) (linesIn f ∷ startOf f ∷ trailerAt f ∷ [])
+
+-- the values are the gate's where a record stands, and else the end's
+pub next : (n : ℕ) (f : List ℕ) (at end : ℕ)
+    → Exactly (givenAs (givenAt f n at end)) (row1 n ∷ row7-next n f at end ∷ []) (cond (recordStands f at end) (values (givenAs (asGiven (gateAt f at)))) (0 ∷ []))
+unfolding givenAt decided refusing
+next n f at end = go (linesOk n) (recordStands f at end) (isRecord n f at)
+  where
+    go : (lines stands gate : Bool)
+        → Exactly (givenAs (cond lines (cond stands (cond gate (asGiven (gateAt f at)) (Given.Refused 7 at)) Given.End) (Given.Refused 1 0)))
+        (record { applies = not lines; number = 1; place = 0 } ∷ record { applies = stands && not gate; number = 7; place = at } ∷ [])
+        (cond stands (values (givenAs (asGiven (gateAt f at)))) (0 ∷ []))
+    go false true gate = exactly _ _
+    go false false gate = exactly _ _
+    go true true true = exactly _ _
+    go true true false = exactly _ _
+    go true false gate = exactly _ _
+
+-- a refused turn leaves the reader at its place
+pub next-kept : (n : ℕ) (f : List ℕ) (at end k p : ℕ) → givenAs (turnAt f n at end .given) ≡ refused k p → turnAt f n at end .at ≡ at
+unfolding turnAt placeAfter
+next-kept n f at end k p e = go (givenAt f n at end) e
+  where
+    go : (given : Given) → givenAs given ≡ refused k p → placeAfter given at ≡ at
+    go (Given.Gate o t c) e = never-both k p _ e
+    go Given.End e = refl
+    go (Given.Refused j q) e = refl
 
 pub listing : (n : ℕ) (b : List ℕ) (room : ℕ)
     → Exactly (listingAnswer n b room) (row1 n ∷ row6 b ∷ row7 n b ∷ row5 room (length (listingText n (gatesOf b))) ∷ []) (length (listingText n (gatesOf b)) ∷ [])

@@ -1,16 +1,18 @@
 -- Document 01's refusal card, a definition for each row: when it is given, and its place.
 use Prim.Native.Nat.{ℕ, _^_}
-use mathlib.Core.Bool.{not}
+use mathlib.Core.Bool.{not, _&&_}
 use mathlib.Core.List.{List}
 use lib.Dec.{eqb, leb, ltb}
 use lib.ListN.{length}
 use Rattle.card.specs.Card.{linesOk}
 use Rattle.gates.specs.declared.Gate.{Gate}
+use Rattle.gates.specs.Records.{isRecord}
 use Rattle.tables.specs.Tables.{firstLarge, firstRepeated}
 use Rattle.cascades.specs.Cascades.{records}
 use Rattle.cascades.specs.Answers.{lengthOk, firstBad}
 use Rattle.choice.specs.Choice.{firstDifference}
 use Rattle.files.specs.Files.{frameOk}
+use Rattle.files.specs.Readers.{recordStands}
 use Rattle.demands.specs.Rows.{Row}
 
 -- lines not 1 to 6
@@ -40,6 +42,10 @@ row6 b = record { applies = not (lengthOk (length b)); number = 6; place = 0 }
 -- a record isn't a gate on n lines: the first such gate
 abbrev pub row7 : ℕ → List ℕ → Row
 row7 n b = record { applies = ltb (firstBad n b) (records b); number = 7; place = firstBad n b }
+
+-- the record where a reader stands isn't one: its byte offset
+abbrev pub row7-next : ℕ → List ℕ → ℕ → ℕ → Row
+row7-next n f at end = record { applies = recordStands f at end && not (isRecord n f at); number = 7; place = at }
 
 -- pattern is 3^n or more
 abbrev pub row8 : ℕ → ℕ → Row
