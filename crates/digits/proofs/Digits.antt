@@ -2,8 +2,9 @@
 -- Everything rests on how the two go over to p / r: `digit-zero`, `digit-suc`, `put-zero`, `put-suc`. Assumes nothing.
 use mathlib.Core.Path.{_≡_, refl, sym, ap, _∙_}
 use Prim.Native.Nat.{ℕ, zero, suc, _+_, _-_, _*_, _/_, _%_, _^_, _≤_, _<_}
-use native.Mathlib.Nat.{pow-zero, pow-suc, pow-succ', pow-le-pow-right, div-one, div-div-eq-div-mul, div-eq-of-lt, div-lt-iff-lt-mul, div-mul-le-self, add-mul-div-left, add-mul-mod-self-left, mod-eq-of-lt, mod-lt, mod-le, mod-add-div, zero-add, zero-mod, mul-one, mul-add, mul-suc, mul-left-comm, mul-le-mul-left, mul-le-mul-right, le-trans, lt-of-lt-of-le}
+use native.Mathlib.Nat.{pow-zero, pow-suc, pow-succ', pow-le-pow-right, div-one, div-div-eq-div-mul, div-eq-of-lt, div-lt-iff-lt-mul, div-mul-le-self, add-mul-div-left, add-mul-mod-self-left, mod-eq-of-lt, mod-lt, mod-le, mod-add-div, zero-add, zero-mod, mul-one, mul-add, mul-suc, mul-left-comm, mul-assoc, mul-le-mul-left, mul-le-mul-right, le-trans, lt-of-lt-of-le}
 use native.Mathlib.Numerals.{add-one}
+use lib.Pow.{pow-add}
 use native.Mathlib.Omega.{arith}
 use Rattle.digits.specs.Digits.{digit, put}
 
@@ -136,3 +137,15 @@ shift-digit r k p q e = rw e
 
 pub shift-next : (r k p q : ℕ) → q ≡ p / r ^ k → q / r ≡ p / r ^ (k + 1)
 shift-next r k p q e = rw (e, add-one, pow-suc) (div-div-eq-div-mul p (r ^ k) r)
+
+-- ---- two numbers in one: lo below, hi from digit m up
+
+pub digit-low : (r k m lo hi : ℕ) → 0 < r → k < m → digit r k (lo + r ^ m * hi) ≡ digit r k lo
+digit-low r k zero lo hi pos lt = absurd (omega arith)
+digit-low r zero (suc m) lo hi pos lt = rw (digit-zero, digit-zero, pow-succ', mul-assoc) (add-mul-mod-self-left lo r (r ^ m * hi))
+digit-low r (suc k) (suc m) lo hi pos lt =
+    rw (digit-suc, digit-suc, pow-succ', mul-assoc, add-mul-div-left lo (r ^ m * hi) pos) (digit-low r k m (lo / r) hi pos (omega arith))
+
+pub digit-up : (r k m lo hi : ℕ) → lo < r ^ m → digit r (m + k) (lo + r ^ m * hi) ≡ digit r k hi
+unfolding digit
+digit-up r k m lo hi lt = rw (pow-add, ← div-div-eq-div-mul, low-div hi lt)

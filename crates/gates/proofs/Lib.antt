@@ -1,3 +1,5 @@
 pub mod Operators
 pub mod Gates
 pub mod Records
+pub mod Bytes
+pub mod Marks

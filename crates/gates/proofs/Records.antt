@@ -24,9 +24,8 @@ use Rattle.card.specs.Card.{linesOk}
 use Rattle.card.proofs.Cards.{lines-are}
 use Rattle.gates.specs.declared.Gate.{Gate}
 use Rattle.gates.specs.declared.Record.{Record}
-use Rattle.gates.specs.declared.controls.Lines.{Lines}
 use Rattle.gates.specs.Gates.{control, IsGate}
-use Rattle.gates.specs.Records.{lineOk, linesOkAt, packedAt, isRecord, gateAt, recordOf, asRecord, decoded, controlsAt}
+use Rattle.gates.specs.Records.{lineOk, linesOkAt, packedAt, isRecord, gateAt, recordOf, asRecord, decoded}
 
 -- ---- one control byte
 
@@ -284,30 +283,3 @@ module _ (n : ℕ) (b : List ℕ) (at : ℕ) where
           → isRecord n b at ≡ false
       go true p e = let e′ = rw six at e in let z : _≡_ {A = ℕ} 0 1 = cc in absurd (omega arith)
       go false p e = p
-
--- ---- the pass over the control bytes
-
-module _ (n t : ℕ) (b : List ℕ) (at : ℕ) where
-  pub controls-none : linesOkAt n t b at ≡ false → controlsAt n t b at ≡ Lines.Bad
-  unfolding controlsAt
-  controls-none e = rw e
-
-  pub controls-all : (c : ℕ) → linesOkAt n t b at ≡ true → c ≡ packedAt b at → controlsAt n t b at ≡ Lines.Packed c
-  unfolding controlsAt
-  controls-all c e v = rw (e, v)
-
-  pub controls-bad : controlsAt n t b at ≡ Lines.Bad → linesOkAt n t b at ≡ false
-  unfolding controlsAt
-  controls-bad = go (linesOkAt n t b at) refl
-    where
-      go : (x : Bool) → linesOkAt n t b at ≡ x → cond x (Lines.Packed (packedAt b at)) Lines.Bad ≡ Lines.Bad → linesOkAt n t b at ≡ false
-      go true p e = let z : _≡_ {A = ℕ} 0 1 = cc in absurd (omega arith)
-      go false p e = p
-
-  pub controls-packed : (c : ℕ) → controlsAt n t b at ≡ Lines.Packed c → (linesOkAt n t b at ≡ true) × (packedAt b at ≡ c)
-  unfolding controlsAt
-  controls-packed c = go (linesOkAt n t b at) refl
-    where
-      go : (x : Bool) → linesOkAt n t b at ≡ x → cond x (Lines.Packed (packedAt b at)) Lines.Bad ≡ Lines.Packed c → (linesOkAt n t b at ≡ true) × (packedAt b at ≡ c)
-      go true p e = (p, cc)
-      go false p e = let z : _≡_ {A = ℕ} 0 1 = cc in absurd (omega arith)

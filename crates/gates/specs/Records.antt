@@ -10,7 +10,6 @@ use Rattle.card.specs.Card.{linesOk}
 use Rattle.gates.specs.Gates.{control}
 use Rattle.gates.specs.declared.Gate.{Gate}
 use Rattle.gates.specs.declared.Record.{Record}
-use Rattle.gates.specs.declared.controls.Lines.{Lines}
 
 -- the byte c of line k, for a gate on n lines with target t: 3 on the target and from line n up, else 0 to 3
 unfoldable pub lineOk : ℕ → ℕ → ℕ → ℕ → Bool
@@ -47,7 +46,3 @@ asRecord g = Record.Gate (g .operator) (g .target) (g .controls)
 -- the record at place at: 1 where the lines are not 1 to 6, 7 at that place where it is no gate on n lines, else the gate
 unfoldable pub decoded : ℕ → List ℕ → ℕ → Record
 decoded n b at = cond (linesOk n) (cond (isRecord n b at) (asRecord (gateAt b at)) (Record.Refused 7 at)) (Record.Refused 1 0)
-
--- what the pass over the control bytes of the record at place at answers
-unfoldable pub controlsAt : ℕ → ℕ → List ℕ → ℕ → Lines
-controlsAt n t b at = cond (linesOkAt n t b at) (Lines.Packed (packedAt b at)) Lines.Bad

@@ -7,8 +7,7 @@ ghost use Rattle.gates.specs.Gates.{act, inverseOp, applied};
 ghost use Rattle.gates.specs.Records.{decoded, recordOf};
 
 mod controls;
-
-use controls::Lines;
+pub mod words;
 
 // A gate: the controls of x0 to x5 are packed in base 4, 3 for none.
 pub struct Gate {
@@ -86,41 +85,18 @@ pub fn decode(lines: u8, bytes: &[u8], at: usize) -> Record
             place: at,
         };
     }
-    let operator = bytes[at];
-    if operator < 1 {
+    let w = words::word_at(bytes, at);
+    if !words::is_gate(lines, w) {
         return Record::Refused {
             number: 7,
             place: at,
         };
     }
-    if 5 < operator {
-        return Record::Refused {
-            number: 7,
-            place: at,
-        };
-    }
-    let target = bytes[at + 1];
-    if lines <= target {
-        return Record::Refused {
-            number: 7,
-            place: at,
-        };
-    }
-    let Lines::Packed(controls) = controls::control_lines(
-        lines as usize,
-        target as usize,
-        bytes,
-        at,
-    ) else {
-        return Record::Refused {
-            number: 7,
-            place: at,
-        };
-    };
+    let g = words::gate_of(w);
     Record::Gate {
-        operator,
-        target,
-        controls,
+        operator: g.operator,
+        target: g.target,
+        controls: g.controls,
     }
 }
 

@@ -1,10 +1,14 @@
 -- `gates::decode` meets its contract: each return is a case of `decoded`, by the test that led there. Assumes nothing.
-use mathlib.Core.Path.{_≡_, sym, _∙_}
+use mathlib.Core.Path.{_≡_, sym, ap, _∙_}
 use mathlib.Core.Bool.{true}
 use borrow.Author.Tests.{not-true, not-false}
 use native.Mathlib.Omega.{arith}
 use Rattle.card.specs.Card.{linesOk}
-use Rattle.gates.proofs.Records.{decoded-lines, decoded-not, decoded-gate, record-short, record-op-low, record-op-high, record-target, record-lines, controls-bad, controls-packed}
+use Rattle.card.proofs.Cards.{lines-are}
+use Rattle.gates.specs.Records.{asRecord}
+use Rattle.gates.specs.Words.{isWord}
+use Rattle.gates.proofs.Records.{decoded-lines, decoded-not, decoded-is, record-short}
+use Rattle.gates.proofs.Bytes.{word-is, word-gate, word-low}
 use borrow.Author.Needs.{needs}
 use Rattle.gates.proofs.decode.Statement.{statement}
 use Rattle.gates.proofs.decode.Tie as tie
@@ -12,6 +16,10 @@ use Rattle.gates.proofs.decode.Tie as tie
 module _ (c : tie.Else1) where
   six : linesOk (c .before .before .before .args .lines) ≡ true
   six = sym (c .before .lines-ok .ensures) ∙ not-false _ (c .if1 .left)
+
+module _ (c : tie.Else4) where
+  gate : isWord (c .before .before .before .before .before .before .before .before .args .lines) (c .before .before .word-at .result) ≡ true
+  gate = sym (c .before .is-gate .ensures) ∙ not-false _ (c .if4 .left)
 
 lines-ok-requires : tie.Need-lines-ok-requires
 lines-ok-requires c κs = search needs
@@ -28,49 +36,25 @@ sub-if3 c = search needs
 returns-3 : tie.Need-returns-3
 returns-3 c = sym (decoded-not _ _ _ (six (c .before .before)) (record-short _ _ _ (omega arith)))
 
-shared-slice-read-operator : tie.Need-shared-slice-read-operator
-shared-slice-read-operator c = search needs
+word-at-requires : tie.Need-word-at-requires
+word-at-requires c κs = search needs
+
+is-gate-requires : tie.Need-is-gate-requires
+is-gate-requires c κs = lines-are _ (six (c .before .before .before)) .1
 
 returns-4 : tie.Need-returns-4
-returns-4 c = sym (decoded-not _ _ _ (six (c .before .before .before .before)) (record-op-low _ _ _ (omega arith) (c .if4 .taken)))
+returns-4 c =
+    let d = c .before .before in
+    sym (decoded-not _ _ _ (six (d .before .before .before)) (word-is _ _ _ (d .word-at .ensures) _ (omega arith) ∙ sym (c .before .is-gate .ensures) ∙ not-true _ (c .if4 .taken)))
+
+gate-of-requires : tie.Need-gate-of-requires
+gate-of-requires c κs = word-low _ _ (gate c)
 
 returns-5 : tie.Need-returns-5
-returns-5 c = sym (decoded-not _ _ _ (six (c .before .before .before .before .before)) (record-op-high _ _ _ (omega arith) (c .if5 .taken)))
-
-add-target : tie.Need-add-target
-add-target c = search needs
-
-shared-slice-read-target : tie.Need-shared-slice-read-target
-shared-slice-read-target c = search needs
-
-returns-6 : tie.Need-returns-6
-returns-6 c =
-    sym (decoded-not _ _ _ (six (c .before .before .before .before .before .before .before)) (record-target _ _ _ (omega arith) (omega arith) (omega arith) (c .if6 .taken)))
-
-cast-control-lines : tie.Need-cast-control-lines
-cast-control-lines c = search needs
-
-control-lines-requires : tie.Need-control-lines-requires
-control-lines-requires c κs = search needs
-
-enum-known-controls : tie.Need-enum-known-controls
-enum-known-controls c = search needs
-
-enum-told : tie.Need-enum-told
-enum-told c = search needs
-
-returns-7 : tie.Need-returns-7
-returns-7 c =
-    let d = c .before .before in
-    sym (decoded-not _ _ _ (six (d .before .before .before .before .before .before .before .before))
-    (record-lines _ _ _ (omega arith) (omega arith) (omega arith) (omega arith) ∙ controls-bad _ _ _ _ (sym (d .control-lines .ensures) ∙ c .enum-told .given .1)))
-
-returns-8 : tie.Need-returns-8
-returns-8 c =
+returns-5 c =
     let d = c .before .before .before in
-    let k = controls-packed _ _ _ _ _ (sym (d .control-lines .ensures) ∙ c .before .controls .given .1) in
-    sym (decoded-gate _ _ _ _ (six (d .before .before .before .before .before .before .before .before))
-    (record-lines _ _ _ (omega arith) (omega arith) (omega arith) (omega arith) ∙ k .0) (k .1))
+    ap asRecord (c .gate-of .ensures ∙ sym (word-gate _ _ _ (d .word-at .ensures)))
+    ∙ sym (decoded-is _ _ _ (six (d .before .before .before)) (word-is _ _ _ (d .word-at .ensures) _ (omega arith) ∙ gate (c .before)))
 
 pub decode-spec : {M : Type 1} → statement M
 decode-spec =
@@ -81,15 +65,8 @@ decode-spec =
     returns-2
     sub-if3
     returns-3
-    shared-slice-read-operator
+    word-at-requires
+    is-gate-requires
     returns-4
-    returns-5
-    add-target
-    shared-slice-read-target
-    returns-6
-    cast-control-lines
-    control-lines-requires
-    enum-known-controls
-    enum-told
-    returns-7
-    returns-8)
+    gate-of-requires
+    returns-5)

@@ -1,0 +1,36 @@
+-- Digits in a radix that is a power of two, under the operations on bits: these work digit by digit. Assumes nothing.
+use mathlib.Core.Path.{_≡_, refl, sym, ap, _∙_}
+use Prim.Native.Nat.{ℕ, zero, suc, _+_, _/_, _%_, _^_, _<_}
+use native.Mathlib.Nat.{pow-zero}
+use native.Mathlib.Omega.{arith}
+use lib.Bits.{bitAnd, bitOr, bitXor, and-shr, and-mod, or-shr, or-mod, xor-shr, xor-mod}
+use Rattle.digits.specs.Digits.{digit}
+use Rattle.digits.proofs.Digits.{digit-zero, digit-suc, digit-high, digits-equal}
+
+module _ (op : ℕ → ℕ → ℕ) (shr : (a b k : ℕ) → op a b / 2 ^ k ≡ op (a / 2 ^ k) (b / 2 ^ k)) (low : (a b k : ℕ) → op a b % 2 ^ k ≡ op (a % 2 ^ k) (b % 2 ^ k)) where
+  by-digits : (s k a b : ℕ) → digit (2 ^ s) k (op a b) ≡ op (digit (2 ^ s) k a) (digit (2 ^ s) k b)
+  by-digits s zero a b = rw (digit-zero, digit-zero, digit-zero) (low a b s)
+  by-digits s (suc k) a b = rw (digit-suc, digit-suc, digit-suc, shr a b s) (by-digits s k (a / 2 ^ s) (b / 2 ^ s))
+
+pub digit-and : (s k a b : ℕ) → digit (2 ^ s) k (bitAnd a b) ≡ bitAnd (digit (2 ^ s) k a) (digit (2 ^ s) k b)
+digit-and = by-digits bitAnd and-shr and-mod
+
+pub digit-or : (s k a b : ℕ) → digit (2 ^ s) k (bitOr a b) ≡ bitOr (digit (2 ^ s) k a) (digit (2 ^ s) k b)
+digit-or = by-digits bitOr or-shr or-mod
+
+pub digit-xor : (s k a b : ℕ) → digit (2 ^ s) k (bitXor a b) ≡ bitXor (digit (2 ^ s) k a) (digit (2 ^ s) k b)
+digit-xor = by-digits bitXor xor-shr xor-mod
+
+-- the lowest bit of a byte, once the number is halved, is the byte's next bit
+pub byte-half : (k x : ℕ) → digit 256 k (x / 2) % 2 ≡ digit 256 k x / 2 % 2
+byte-half zero x = rw (digit-zero, digit-zero) (omega arith)
+byte-half (suc k) x =
+    let same : x / 2 / 256 ≡ x / 256 / 2 = omega arith in
+    rw (digit-suc, digit-suc, same) (byte-half k (x / 256))
+
+-- 0 has no other digit than 0, and a number with no other digit is 0
+pub digit-of-zero : (r k : ℕ) → 0 < r → digit r k 0 ≡ 0
+digit-of-zero r k pos = digit-high r 0 k 0 pos (rw pow-zero (omega arith)) (omega arith)
+
+pub zero-digits : (r m p : ℕ) → 0 < r → 0 < r ^ m → p < r ^ m → ((k : ℕ) → k < m → digit r k p ≡ 0) → p ≡ 0
+zero-digits r m p pos some lt h = digits-equal r m p 0 pos lt some (λ k l. h k l ∙ sym (digit-of-zero r k pos))

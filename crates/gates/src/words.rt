@@ -1,0 +1,202 @@
+// A record as one number of 64 bits, its first byte lowest: all bytes are looked at at once.
+ghost use mathlib.Core.Path.{_≡_};
+ghost use mathlib.Core.Bool.{cond};
+ghost use Prim.Native.Nat.{ℕ, _+_, _≤_, _<_, _^_};
+ghost use lib.Dec.{eqb};
+ghost use lib.ListN.{length, getD};
+ghost use Rattle.digits.specs.Digits.{digit, put, pack};
+ghost use Rattle.gates.specs.Gates.{act};
+ghost use Rattle.gates.specs.Words.{byte, Word, bare, linesOkIn, isWord, gateOf, Low, Held, controlMarks, otherMarks, Spread, firesIn, movedBy};
+use super::Gate;
+
+fn wide(x: u8) -> u64
+    ensures { λ r. ⌜ (r ≡ x) × (r < 256) ⌝ }
+{
+    x as u64
+}
+
+// Four bytes from a place on.
+fn half_at(bytes: &[u8], at: usize) -> u64
+    requires { ⌜ at + 4 ≤ length (now bytes) ⌝ }
+    ensures { λ r. ⌜ (r < 256 ^ 4) × ((k : ℕ) → k < 4 → byte k r ≡ getD (now (bytes .entry)) (at + k) 0) ⌝ }
+{
+    let a = wide(bytes[at]);
+    let b = wide(bytes[at + 1]);
+    let c = wide(bytes[at + 2]);
+    let d = wide(bytes[at + 3]);
+    a + 256 * b + 65536 * c + 16777216 * d
+}
+
+// The record at a place.
+pub fn word_at(bytes: &[u8], at: usize) -> u64
+    requires { ⌜ at + 8 ≤ length (now bytes) ⌝ }
+    ensures { λ r. ⌜ Word (now (bytes .entry)) at r ⌝ }
+{
+    half_at(bytes, at) + 4294967296 * half_at(bytes, at + 4)
+}
+
+// The weight of byte k.
+fn weight(k: u64) -> u64
+    requires { ⌜ k ≤ 6 ⌝ }
+    ensures { λ r. ⌜ r ≡ 256 ^ k ⌝ }
+{
+    1 << (8 * k)
+}
+
+// 3 in the byte of each line that can have no control.
+fn bare_bytes(n: u64, t: u64) -> u64
+    requires { ⌜ (n ≤ 6) × (t < n) ⌝ }
+    ensures { λ r. ⌜ r ≡ bare n t ⌝ }
+{
+    let lines = weight(n);
+    65536 * (0x030303030303 / lines * lines + 3 * weight(t))
+}
+
+// The control bytes are right for a gate on n lines with target t: 3 where `bare` has a 3, and below 4 elsewhere.
+fn lines_right(n: u64, t: u64, w: u64) -> bool
+    requires { ⌜ (n ≤ 6) × (t < n) ⌝ }
+    ensures { λ r. ⌜ r ≡ linesOkIn n t w ⌝ }
+{
+    let none = bare_bytes(n, t);
+    (w ^ none) & (none | 0xfcfcfcfcfcfc0000) == 0
+}
+
+// The word is a gate on so many lines.
+pub fn is_gate(lines: u8, w: u64) -> bool
+    requires { ⌜ lines ≤ 6 ⌝ }
+    ensures { λ r. ⌜ r ≡ isWord lines w ⌝ }
+{
+    let n = lines as u64;
+    let target = w / 256 % 256;
+    if n <= target {
+        return false;
+    }
+    let operator = w % 256;
+    if operator < 1 {
+        return false;
+    }
+    if 5 < operator {
+        return false;
+    }
+    lines_right(n, target, w)
+}
+
+// The control bytes, packed in base 4.
+fn packed_controls(w: u64) -> u64
+    requires { ⌜ Low w ⌝ }
+    ensures { λ r. ⌜ (r ≡ pack 4 (λ k. byte (2 + k) w) 6) × (r < 4096) ⌝ }
+{
+    w / 65536 % 4
+        + 4 * (w / 16777216 % 4)
+        + 16 * (w / 4294967296 % 4)
+        + 64 * (w / 1099511627776 % 4)
+        + 256 * (w / 281474976710656 % 4)
+        + 1024 * (w / 72057594037927936 % 4)
+}
+
+// The gate that the word writes down.
+pub fn gate_of(w: u64) -> Gate
+    requires { ⌜ Low w ⌝ }
+    ensures { λ r. ⌜ r ≡ gateOf w ⌝ }
+{
+    Gate {
+        operator: (w % 256) as u8,
+        target: (w / 256 % 256) as u8,
+        controls: packed_controls(w) as u16,
+    }
+}
+
+// 1 in each of six bytes that isn't 0.
+fn marked(x: u64) -> u64
+    requires { ⌜ ((k : ℕ) → k < 6 → byte k x < 4) ⌝ }
+    ensures { λ r. ⌜ r ≡ pack 256 (λ k. cond (eqb (byte k x) 0) 0 1) 6 ⌝ }
+{
+    (x | x / 2) & 0x010101010101
+}
+
+// 1 for each line that has a control.
+pub fn mark_controls(w: u64) -> u64
+    requires { ⌜ Low w ⌝ }
+    ensures { λ r. ⌜ r ≡ controlMarks w ⌝ }
+{
+    marked(w / 65536 ^ 0x030303030303)
+}
+
+// 1 for each line whose control byte is another than its byte of d.
+pub fn mark_others(w: u64, d: u64) -> u64
+    requires { ⌜ Low w × ((k : ℕ) → k < 6 → byte k d < 4) ⌝ }
+    ensures { λ r. ⌜ r ≡ otherMarks w d ⌝ }
+{
+    marked(d ^ w / 65536)
+}
+
+// The digits of a pattern, a byte each.
+pub fn spread(p: u16) -> u64
+    ensures { λ r. ⌜ Spread p r ⌝ }
+{
+    let q = p as u64;
+    q % 3
+        + 256 * (q / 3 % 3)
+        + 65536 * (q / 9 % 3)
+        + 16777216 * (q / 27 % 3)
+        + 4294967296 * (q / 81 % 3)
+        + 1099511627776 * (q / 243 % 3)
+}
+
+// The pattern of six digits.
+pub fn gather(d: u64) -> u16
+    requires { ⌜ Held d ⌝ }
+    ensures { λ r. ⌜ r ≡ pack 3 (λ k. byte k d) 6 ⌝ }
+{
+    (d % 256
+        + 3 * (d / 256 % 256)
+        + 9 * (d / 65536 % 256)
+        + 27 * (d / 16777216 % 256)
+        + 81 * (d / 4294967296 % 256)
+        + 243 * (d / 1099511627776 % 256)) as u16
+}
+
+// Every control line holds its value: no control's line holds another.
+fn fires_in(w: u64, d: u64) -> bool
+    requires { ⌜ Low w × Held d ⌝ }
+    ensures { λ r. ⌜ r ≡ firesIn w d ⌝ }
+{
+    mark_others(w, d) & mark_controls(w) == 0
+}
+
+// Byte k.
+fn byte_of(d: u64, k: u64) -> u64
+    requires { ⌜ k ≤ 6 ⌝ }
+    ensures { λ r. ⌜ r ≡ byte k d ⌝ }
+{
+    d / weight(k) % 256
+}
+
+// Six bytes, with byte k replaced.
+fn put_byte(d: u64, k: u64, x: u64) -> u64
+    requires { ⌜ (d < 256 ^ 6) × (k < 6) × (x < 256) ⌝ }
+    ensures { λ r. ⌜ r ≡ put 256 k d x ⌝ }
+{
+    let place = weight(k);
+    d - d / place % 256 * place + x * place
+}
+
+// The lines after the gate.
+pub fn moved(w: u64, d: u64) -> u64
+    requires { ⌜ Low w × (byte 1 w < 6) × Held d ⌝ }
+    ensures { λ r. ⌜ r ≡ movedBy w d ⌝ }
+{
+    if !fires_in(w, d) {
+        return d;
+    }
+    let t = w / 256 % 256;
+    put_byte(d, t, acted((w % 256) as u8, byte_of(d, t)))
+}
+
+// The operator's value at a digit, as wide as the word.
+fn acted(operator: u8, x: u64) -> u64
+    requires { ⌜ x < 3 ⌝ }
+    ensures { λ r. ⌜ (r ≡ act operator x) × (r < 3) ⌝ }
+{
+    super::act_on(operator, x as u16) as u64
+}
