@@ -55,11 +55,11 @@ module _ (n : ℕ) (b : List ℕ) where
     unfolding sound refusing
     sound-length e = rw e
 
-    sound-at : (i : ℕ) → lengthOk (length b) ≡ true → firstBad n b ≡ i → i < records b → sound n b x ≡ refused 7 i
+    pub sound-at : (i : ℕ) → lengthOk (length b) ≡ true → firstBad n b ≡ i → i < records b → sound n b x ≡ refused 7 i
     unfolding sound refusing
     sound-at i e f lt = rw (e, f, lt-ltb i (records b) lt)
 
-    sound-none : lengthOk (length b) ≡ true → records b ≤ firstBad n b → sound n b x ≡ x
+    pub sound-none : lengthOk (length b) ≡ true → records b ≤ firstBad n b → sound n b x ≡ x
     unfolding sound refusing
     sound-none e le = rw (e, le-ltb (firstBad n b) (records b) le)
 

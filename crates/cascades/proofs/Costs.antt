@@ -75,6 +75,9 @@ pub others-few : (v : ℕ) (g : Gate) → others v g ≤ 6
 unfolding others
 others-few v g = sum-le (λ k. cond (eqb (control g k) 3 || eqb (control g k) v) 0 1) 1 0 6 (λ k. one-at-most (eqb (control g k) 3 || eqb (control g k) v))
 
+pub count-few : (g : Gate) → controlCount g ≤ 6
+count-few g = rw (← count-others g) (others-few 3 g)
+
 -- the target of a gate has no control, so it has five at most
 pub others-le : (n v : ℕ) (g : Gate) → n ≤ 6 → IsGate n g → others v g ≤ 5
 unfolding others

@@ -1,6 +1,7 @@
 pub mod Cascades
 pub mod Undone
 pub mod Costs
+pub mod Marks
 pub mod Answers
 pub mod Stored
 pub mod Sounds

@@ -17,7 +17,10 @@ use Rattle.card.proofs.Cards.{sets-laid}
 use Rattle.gates.specs.declared.Gate.{Gate}
 use Rattle.gates.specs.Gates.{inverseOp, inverse, IsGate}
 use Rattle.gates.specs.Records.{isRecord, gateAt, recordOf}
-use Rattle.gates.proofs.Records.{length-record, record-again, gate-written, gate-ext}
+use Rattle.gates.specs.Words.{byte, Word, bytesIn}
+use Rattle.gates.proofs.Operators.{inverse-is-op}
+use Rattle.gates.proofs.Bytes.{low-replaced}
+use Rattle.gates.proofs.Records.{reads, length-record, record-again, gate-written, gate-ext}
 use Rattle.cascades.specs.Cascades.{records, gatesOf, bytesOf, undoing}
 use Rattle.cascades.proofs.Cascades.{gateOf}
 
@@ -27,6 +30,16 @@ pub record-inverse : (n : ℕ) (b : List ℕ) (at : ℕ) → isRecord n b at ≡
     ≡ inverseOp (getD b at 0) ∷ getD b (at + 1) 0 ∷ getD b (at + 2) 0 ∷ getD b (at + 3) 0 ∷ getD b (at + 4) 0 ∷ getD b (at + 5) 0 ∷ getD b (at + 6) 0 ∷ getD b (at + 7) 0 ∷ []
 unfolding recordOf inverse gateAt
 record-inverse n b at e = ap (λ (l : List ℕ). inverseOp (getD b at 0) ∷ drop 1 l) (record-again n b at e)
+
+-- as one number: another lowest byte
+pub word-inverse : (n : ℕ) (b : List ℕ) (at w : ℕ) → isRecord n b at ≡ true → Word b at w → bytesIn (inverseOp (byte 0 w) + 256 * (w / 256)) ≡ recordOf (inverse (gateAt b at))
+word-inverse n b at w is read =
+    let r = reads n b at is in
+    let o : byte 0 w ≡ getD b at 0 = rw add-zero at (read .bytes 0 (omega arith)) in
+    let few : inverseOp (byte 0 w) < 256 = rw o (omega (arith, inverse-is-op (getD b at 0) (r .op-low) (r .op-high) .1)) in
+    low-replaced (inverseOp (byte 0 w)) w few
+    ∙ rw (o, read .bytes 1 (omega arith), read .bytes 2 (omega arith), read .bytes 3 (omega arith), read .bytes 4 (omega arith), read .bytes 5 (omega arith), read .bytes 6 (omega arith), read .bytes 7 (omega arith))
+    (sym (record-inverse n b at is))
 
 pub length-bytes : (gs : List Gate) → length (bytesOf gs) ≡ 8 * length gs
 unfolding bytesOf

@@ -11,11 +11,9 @@ ghost use Rattle.cascades.specs.Answers.{countedAs, ranAs, tabulatedAs, 
 
 pub mod lengths;
 mod prices;
+pub mod scan;
 mod undo;
 pub mod whole;
-
-use gates::Gate;
-use gates::Record;
 
 // So many gates, counted or written.
 pub enum Counted {
@@ -58,20 +56,12 @@ pub fn check_cascade(lines: u8, cascade: &[u8]) -> Counted
         };
     }
     let count = cascade.len() / 8;
-    let mut i: usize = 0;
-    while i < count {
-        let Record::Gate {
-            operator: _,
-            target: _,
-            controls: _,
-        } = gates::decode(lines, cascade, 8 * i)
-        else {
-            return Counted::Refused {
-                number: 7,
-                place: i,
-            };
+    let bad = scan::first_bad(lines, cascade);
+    if bad < count {
+        return Counted::Refused {
+            number: 7,
+            place: bad,
         };
-        i = i + 1;
     }
     Counted::Gates(count)
 }
@@ -88,31 +78,20 @@ fn run_on(lines: u8, cascade: &[u8], pattern: u16) -> Ran
         };
     }
     let m = cascade.len() / 8;
-    let mut p = pattern;
+    let mut d = gates::words::spread(pattern);
     let mut i: usize = 0;
     while i < m {
-        let Record::Gate {
-            operator,
-            target,
-            controls,
-        } = gates::decode(lines, cascade, 8 * i)
-        else {
+        let w = gates::words::word_at(cascade, 8 * i);
+        if !gates::words::is_gate(lines, w) {
             return Ran::Refused {
                 number: 7,
                 place: i,
             };
-        };
-        p = gates::apply(
-            Gate {
-                operator,
-                target,
-                controls,
-            },
-            p,
-        );
+        }
+        d = gates::words::moved(w, d);
         i = i + 1;
     }
-    Ran::Pattern(p)
+    Ran::Pattern(gates::words::gather(d))
 }
 
 // The cascade on a pattern: refusals 1, 6, 7, 8.
@@ -180,7 +159,7 @@ pub fn invert(lines: u8, cascade: &[u8], room: &mut [u8]) -> Counted
 
 // The sum of the gates' prices, with refusals 6 and 7 on the way: one pass.
 fn price_on(lines: u8, value: u8, cascade: &[u8]) -> Priced
-    requires { ⌜ linesOk lines ≡ true ⌝ }
+    requires { ⌜ (linesOk lines ≡ true) × (value ≤ 2) ⌝ }
     ensures { λ r. ⌜ pricedAs r ≡ sound lines (now (cascade .entry)) (accepted (cascadePrice value (gatesOf (now (cascade .entry))) ∷ [])) ⌝ }
 {
     if !lengths::length_ok(cascade.len()) {
@@ -193,26 +172,14 @@ fn price_on(lines: u8, value: u8, cascade: &[u8]) -> Priced
     let mut cost: u32 = 0;
     let mut i: usize = 0;
     while i < m {
-        let Record::Gate {
-            operator,
-            target,
-            controls,
-        } = gates::decode(lines, cascade, 8 * i)
-        else {
+        let w = gates::words::word_at(cascade, 8 * i);
+        if !gates::words::is_gate(lines, w) {
             return Priced::Refused {
                 number: 7,
                 place: i,
             };
-        };
-        cost = cost
-            + prices::price_gate(
-                value,
-                Gate {
-                    operator,
-                    target,
-                    controls,
-                },
-            );
+        }
+        cost = cost + prices::price_word(value, w);
         i = i + 1;
     }
     Priced::Cost(cost)

@@ -13,14 +13,8 @@ fn copy_inverse(lines: u8, cascade: &[u8], from: usize, room: &mut [u8], to: usi
     requires { ⌜ (isRecord lines (now cascade) from ≡ true) × (from + 8 ≤ length (now cascade)) × (to + 8 ≤ length (now room)) ⌝ }
     ensures { λ _. ⌜ now (room .exit) ≡ sets (now (room .entry)) to (recordOf (inverse (gateAt (now (cascade .entry)) from))) ⌝ }
 {
-    room[to] = gates::invert_op(cascade[from]);
-    room[to + 1] = cascade[from + 1];
-    room[to + 2] = cascade[from + 2];
-    room[to + 3] = cascade[from + 3];
-    room[to + 4] = cascade[from + 4];
-    room[to + 5] = cascade[from + 5];
-    room[to + 6] = cascade[from + 6];
-    room[to + 7] = cascade[from + 7];
+    let w = gates::words::invert_word(gates::words::word_at(cascade, from));
+    gates::words::store(w, room, to);
 }
 
 // The inverses of the m gates, the last first, from the start of the room on.

@@ -2,7 +2,7 @@
 -- at most six lines. Assumes nothing.
 use mathlib.Core.Path.{_≡_, refl, sym, ap, _∙_}
 use mathlib.Core.Bool.{Bool, true, false, cond, not, _&&_, _||_}
-use mathlib.Core.List.{List}
+use mathlib.Core.List.{List, [], _∷_}
 use mathlib.Core.Logic.{_⊎_, ⊎-elim}
 use Prim.Native.Nat.{ℕ, zero, suc, _+_, _-_, _*_, _/_, _%_, _^_, _≤_, _<_}
 use native.Mathlib.Nat.{add-zero, add-assoc, lt-of-le-of-lt}
@@ -12,16 +12,16 @@ use lib.ListN.{length, getD}
 use lib.Bits.{bitAnd, bitOr, bitXor, and-zero-r, and-le-r, or-lt}
 use borrow.Author.Tests.{eqb-true, eqb-false, leb-true, ltb-true, ltb-false, eq-eqb, ne-eqb, le-leb, lt-leb, lt-ltb, le-ltb}
 use Rattle.ranges.specs.Ranges.{every, sum}
-use Rattle.ranges.proofs.Bools.{and-right, decide, clash}
+use Rattle.ranges.proofs.Bools.{and-left, and-right, decide, clash}
 use Rattle.ranges.proofs.Tests.{every-below, every-of, every-ext}
 use Rattle.digits.specs.Digits.{digit, pack}
-use Rattle.digits.proofs.Digits.{digit-zero, digit-suc, digit-lt, digit-low, digit-up}
+use Rattle.digits.proofs.Digits.{digit-zero, digit-suc, digit-lt, digit-low, digit-up, low-div, low-mod}
 use Rattle.digits.proofs.Packs.{pack-ext}
 use Rattle.digits.proofs.Bits.{digit-and, digit-or, digit-xor, digit-of-zero, zero-digits}
 use Rattle.gates.specs.declared.Gate.{Gate}
 use Rattle.gates.specs.Records.{lineOk, linesOkAt, packedAt, isRecord, gateAt}
 use Rattle.gates.proofs.Records.{line-lt}
-use Rattle.gates.specs.Words.{byte, Word, linesOkIn, isWord, gateOf, bare, Low, Held, controlMarks, otherMarks, Spread, firesIn, movedBy}
+use Rattle.gates.specs.Words.{byte, Word, bytesIn, linesOkIn, isWord, gateOf, bare, Low, Held, controlMarks, otherMarks, Spread, firesIn, movedBy}
 
 -- ---- what is computed
 
@@ -168,6 +168,64 @@ two-halves b at lo hi llo lhi elo ehi = record { low = omega arith; bytes = λ k
         let up : byte (4 + (k - 4)) (lo + 4294967296 * hi) ≡ getD b (at + 4 + (k - 4)) 0 = digit-up 256 (k - 4) 4 lo hi llo ∙ ehi (k - 4) (omega arith) in
         rw (four, place) at up
 
+-- a byte below the bytes of q
+low-byte : (x q : ℕ) → x < 256 → byte 0 (x + 256 * q) ≡ x
+low-byte x q lt = rw (digit-zero, low-mod q lt)
+
+next-byte : (k x q : ℕ) → x < 256 → byte (suc k) (x + 256 * q) ≡ byte k q
+next-byte k x q lt = rw (digit-suc, low-div q lt)
+
+-- a word with another lowest byte
+pub low-replaced : (x w : ℕ) → x < 256 → bytesIn (x + 256 * (w / 256)) ≡ x ∷ byte 1 w ∷ byte 2 w ∷ byte 3 w ∷ byte 4 w ∷ byte 5 w ∷ byte 6 w ∷ byte 7 w ∷ []
+unfolding bytesIn
+low-replaced x w lt =
+    let next : (k : ℕ) → byte (suc k) (x + 256 * (w / 256)) ≡ byte (suc k) w = λ k. next-byte k x (w / 256) lt ∙ sym (digit-suc 256 k w) in
+    rw (low-byte x (w / 256) lt, next 0, next 1, next 2, next 3, next 4, next 5, next 6)
+
+module _ (a b c0 c1 c2 c3 c4 c5 : ℕ) (la : a < 256) (lb : b < 256) (l0 : c0 < 256) (l1 : c1 < 256) (l2 : c2 < 256) (l3 : c3 < 256) (l4 : c4 < 256) (l5 : c5 < 256) where
+  pub eight-bytes : bytesIn (a + 256 * (b + 256 * (c0 + 256 * (c1 + 256 * (c2 + 256 * (c3 + 256 * (c4 + 256 * c5))))))) ≡ a ∷ b ∷ c0 ∷ c1 ∷ c2 ∷ c3 ∷ c4 ∷ c5 ∷ []
+  unfolding bytesIn
+  eight-bytes =
+      let last : byte 0 c5 ≡ c5 = rw digit-zero (omega arith) in
+      rw (
+        low-byte a _ la,
+        next-byte 0 a _ la,
+        next-byte 1 a _ la,
+        next-byte 2 a _ la,
+        next-byte 3 a _ la,
+        next-byte 4 a _ la,
+        next-byte 5 a _ la,
+        next-byte 6 a _ la,
+        low-byte b _ lb,
+        next-byte 0 b _ lb,
+        next-byte 1 b _ lb,
+        next-byte 2 b _ lb,
+        next-byte 3 b _ lb,
+        next-byte 4 b _ lb,
+        next-byte 5 b _ lb,
+        low-byte c0 _ l0,
+        next-byte 0 c0 _ l0,
+        next-byte 1 c0 _ l0,
+        next-byte 2 c0 _ l0,
+        next-byte 3 c0 _ l0,
+        next-byte 4 c0 _ l0,
+        low-byte c1 _ l1,
+        next-byte 0 c1 _ l1,
+        next-byte 1 c1 _ l1,
+        next-byte 2 c1 _ l1,
+        next-byte 3 c1 _ l1,
+        low-byte c2 _ l2,
+        next-byte 0 c2 _ l2,
+        next-byte 1 c2 _ l2,
+        next-byte 2 c2 _ l2,
+        low-byte c3 _ l3,
+        next-byte 0 c3 _ l3,
+        next-byte 1 c3 _ l3,
+        low-byte c4 _ l4,
+        next-byte 0 c4 _ l4,
+        last,
+      )
+
 -- ---- a word against the bytes it was read from
 
 module _ (b : List ℕ) (at w : ℕ) (read : Word b at w) where
@@ -239,3 +297,14 @@ module _ (n w : ℕ) where
         each = λ k lt. line-lt n t k (byte (2 + k) w)
             (every-below (λ k. lineOk n t k (byte (2 + k) w)) 6 (and-right ((leb 1 (byte 0 w) && leb (byte 0 w) 5) && ltb (byte 1 w) n) (every (λ k. lineOk n t k (byte (2 + k) w)) 0 6) e) k lt);
       }
+
+  -- and its target a line
+  pub word-on : isWord n w ≡ true → byte 1 w < n
+  unfolding isWord
+  word-on e =
+      let ops : Bool = leb 1 (byte 0 w) && leb (byte 0 w) 5 in
+      ltb-true (byte 1 w) n (and-right ops (ltb (byte 1 w) n) (and-left (ops && ltb (byte 1 w) n) (linesOkIn n (byte 1 w) w) e))
+
+  pub gate-on : isWord n w ≡ true → gateOf w .target < n
+  unfolding gateOf
+  gate-on e = word-on e

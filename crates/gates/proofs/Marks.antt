@@ -18,7 +18,7 @@ use Rattle.digits.proofs.Digits.{digit-lt, digit-put-same, digit-put-other, put
 use Rattle.digits.proofs.Packs.{pack-lt, pack-ext, pack-digits, digit-pack}
 use Rattle.digits.proofs.Bits.{digit-and, digit-or, digit-xor, byte-half}
 use Rattle.gates.specs.declared.Gate.{Gate}
-use Rattle.gates.specs.Gates.{act, holds, firesOn, fires, applied}
+use Rattle.gates.specs.Gates.{act, control, holds, firesOn, fires, applied}
 use Rattle.gates.specs.Words.{byte, gateOf, Low, Held, controlMarks, otherMarks, Spread, firesIn, movedBy}
 use Rattle.gates.proofs.Operators.{act-lt}
 use Rattle.gates.proofs.Bytes.{same, byte-high, none-in}
@@ -133,6 +133,11 @@ fires-marked w d =
     each k lt =
         let a : digit 256 k (bitAnd (otherMarks w d) (controlMarks w)) ≡ bitAnd (byte k (otherMarks w d)) (byte k (controlMarks w)) = digit-and 8 k (otherMarks w d) (controlMarks w) in
         rw (a, other-mark w d k lt, control-mark w k lt) (marks-hold (byte (2 + k) w) (byte k d))
+
+-- the gate's control on line k is its byte
+pub control-word : (w : ℕ) → Low w → (k : ℕ) → k < 6 → control (gateOf w) k ≡ byte (2 + k) w
+unfolding gateOf
+control-word w low k lt = digit-pack 4 (λ k. byte (2 + k) w) 6 (low .each) k lt
 
 -- ---- a pattern spread out
 

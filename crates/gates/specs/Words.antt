@@ -2,7 +2,7 @@
 use Prim.Native.Nat.{ℕ, _+_, _*_, _/_, _^_, _<_}
 use mathlib.Core.Path.{_≡_}
 use mathlib.Core.Bool.{Bool, cond, _&&_, _||_}
-use mathlib.Core.List.{List}
+use mathlib.Core.List.{List, [], _∷_}
 use lib.Dec.{eqb, leb, ltb}
 use lib.ListN.{getD}
 use Rattle.ranges.specs.Ranges.{every}
@@ -18,6 +18,10 @@ byte k w = digit 256 k w
 pub record Word (b : List ℕ) (at w : ℕ) : Type 0 where
   pub low : w < 256 ^ 8
   pub bytes : (k : ℕ) → k < 8 → byte k w ≡ getD b (at + k) 0
+
+-- its 8 bytes, as they are stored
+unfoldable pub bytesIn : ℕ → List ℕ
+bytesIn w = byte 0 w ∷ byte 1 w ∷ byte 2 w ∷ byte 3 w ∷ byte 4 w ∷ byte 5 w ∷ byte 6 w ∷ byte 7 w ∷ []
 
 -- its control bytes are right for a gate on n lines with target t
 unfoldable pub linesOkIn : ℕ → ℕ → ℕ → Bool

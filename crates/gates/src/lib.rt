@@ -105,13 +105,5 @@ pub fn encode(g: Gate, out: &mut [u8], at: usize)
     requires { ⌜ at + 8 ≤ length (now out) ⌝ }
     ensures { λ _. ⌜ now (out .exit) ≡ sets (now (out .entry)) at (recordOf g) ⌝ }
 {
-    let c = g.controls;
-    out[at] = g.operator;
-    out[at + 1] = g.target;
-    out[at + 2] = (c % 4) as u8;
-    out[at + 3] = (c / 4 % 4) as u8;
-    out[at + 4] = (c / 16 % 4) as u8;
-    out[at + 5] = (c / 64 % 4) as u8;
-    out[at + 6] = (c / 256 % 4) as u8;
-    out[at + 7] = (c / 1024 % 4) as u8;
+    words::store(words::word_of(g), out, at);
 }

@@ -1,12 +1,14 @@
 // A record as one number of 64 bits, its first byte lowest: all bytes are looked at at once.
 ghost use mathlib.Core.Path.{_≡_};
 ghost use mathlib.Core.Bool.{cond};
-ghost use Prim.Native.Nat.{ℕ, _+_, _≤_, _<_, _^_};
+ghost use Prim.Native.Nat.{ℕ, _+_, _*_, _/_, _≤_, _<_, _^_};
 ghost use lib.Dec.{eqb};
 ghost use lib.ListN.{length, getD};
+ghost use lib.Seq.{sets};
 ghost use Rattle.digits.specs.Digits.{digit, put, pack};
-ghost use Rattle.gates.specs.Gates.{act};
-ghost use Rattle.gates.specs.Words.{byte, Word, bare, linesOkIn, isWord, gateOf, Low, Held, controlMarks, otherMarks, Spread, firesIn, movedBy};
+ghost use Rattle.gates.specs.Gates.{act, inverseOp};
+ghost use Rattle.gates.specs.Records.{recordOf};
+ghost use Rattle.gates.specs.Words.{byte, Word, bytesIn, bare, linesOkIn, isWord, gateOf, Low, Held, controlMarks, otherMarks, Spread, firesIn, movedBy};
 use super::Gate;
 
 fn wide(x: u8) -> u64
@@ -33,6 +35,21 @@ pub fn word_at(bytes: &[u8], at: usize) -> u64
     ensures { λ r. ⌜ Word (now (bytes .entry)) at r ⌝ }
 {
     half_at(bytes, at) + 4294967296 * half_at(bytes, at + 4)
+}
+
+// The word's 8 bytes, stored at a place.
+pub fn store(w: u64, out: &mut [u8], at: usize)
+    requires { ⌜ at + 8 ≤ length (now out) ⌝ }
+    ensures { λ _. ⌜ now (out .exit) ≡ sets (now (out .entry)) at (bytesIn w) ⌝ }
+{
+    out[at] = (w % 256) as u8;
+    out[at + 1] = (w / 256 % 256) as u8;
+    out[at + 2] = (w / 65536 % 256) as u8;
+    out[at + 3] = (w / 16777216 % 256) as u8;
+    out[at + 4] = (w / 4294967296 % 256) as u8;
+    out[at + 5] = (w / 1099511627776 % 256) as u8;
+    out[at + 6] = (w / 281474976710656 % 256) as u8;
+    out[at + 7] = (w / 72057594037927936 % 256) as u8;
 }
 
 // The weight of byte k.
@@ -199,4 +216,22 @@ fn acted(operator: u8, x: u64) -> u64
     ensures { λ r. ⌜ (r ≡ act operator x) × (r < 3) ⌝ }
 {
     super::act_on(operator, x as u16) as u64
+}
+
+// The word of a gate: its controls, packed in base 4, are spread over bytes.
+pub fn word_of(g: Gate) -> u64
+    ensures { λ r. ⌜ bytesIn r ≡ recordOf g ⌝ }
+{
+    let c = g.controls as u64;
+    let high = c / 64 % 4 + 256 * (c / 256 % 4 + 256 * (c / 1024 % 4));
+    let controls = c % 4 + 256 * (c / 4 % 4 + 256 * (c / 16 % 4 + 256 * high));
+    g.operator as u64 + 256 * (g.target as u64 + 256 * controls)
+}
+
+// The word with another operator byte: that of the operator's inverse.
+pub fn invert_word(w: u64) -> u64
+    ensures { λ r. ⌜ r ≡ inverseOp (byte 0 w) + 256 * (w / 256) ⌝ }
+{
+    let operator = w % 256;
+    w - operator + wide(super::invert_op(operator as u8))
 }

@@ -25,7 +25,7 @@ unfolding priceAnswer
 returns-2 c = sym (good-lines _ _ (six (c .before)) ∙ refusing-yes _ _ _ _ (lt-ltb _ _ (c .if2 .taken)))
 
 price-on-requires : tie.Need-price-on-requires
-price-on-requires c κs = six (c .before)
+price-on-requires c κs = (six (c .before), c .if2 .left)
 
 returns-3 : tie.Need-returns-3
 unfolding priceAnswer

@@ -1,23 +1,26 @@
 -- `cascades::price_on` meets its contract: the cost so far and the price of what is left is the price of all. Assumes nothing.
 use mathlib.Core.Path.{_≡_, sym, ap, _∙_}
-use mathlib.Core.Bool.{true}
+use mathlib.Core.Bool.{Bool, true}
 use mathlib.Core.List.{List, [], _∷_}
 use Prim.Native.Nat.{ℕ, _+_, _-_, _*_, _≤_}
 use native.Mathlib.Nat.{sub-zero, zero-add}
 use lib.ListN.{length}
 use borrow.Author.Tests.{not-true, not-false}
-use borrow.Author.Needs.{needs}
 use native.Mathlib.Omega.{arith}
 use Rattle.ranges.specs.Ranges.{span}
 use Rattle.card.specs.Card.{Answer.accepted}
 use Rattle.card.proofs.Cards.{lines-are}
-use Rattle.gates.proofs.Records.{gives, gives-gate, gives-no}
+use Rattle.gates.specs.Records.{isRecord}
+use Rattle.gates.specs.Words.{isWord}
+use Rattle.gates.proofs.Records.{gate-at}
+use Rattle.gates.proofs.Bytes.{word-is, word-gate, word-low}
 use Rattle.cascades.specs.Cascades.{gatesOf}
 use Rattle.cascades.specs.Prices.{gatePrice, cascadePrice}
 use Rattle.cascades.specs.Answers.{lengthOk}
 use Rattle.cascades.proofs.Cascades.{gateOf}
 use Rattle.cascades.proofs.Costs.{price-le, price-more, price-ends}
 use Rattle.cascades.proofs.Answers.{Passing, passing-start, passing-next, length-is, sound-length, sound-bad, sound-good}
+use borrow.Author.Needs.{needs}
 use Rattle.cascades.proofs.price_on.Statement.{statement}
 use Rattle.cascades.proofs.price_on.Tie as tie
 
@@ -37,12 +40,19 @@ module _ (c : tie.Else1 Inv-loop μ-loop) where
   whole : lengthOk (length (c .before .before .before .args .cascade .now)) ≡ true
   whole = sym (c .before .length-ok .ensures) ∙ not-false _ (c .if1 .left)
 
-module _ (c : tie.After-price-gate Inv-loop μ-loop) where
-  cheap : c .price-gate .result ≤ 85
+-- the record at the loop's place, as the number that was read
+module _ (c : tie.After-is-gate Inv-loop μ-loop) where
+  read-as : (t : Bool) → c .is-gate .result ≡ t
+      → isRecord (c .before .before .before .before .before .before .before .args .lines) (c .before .before .before .before .before .before .before .args .cascade .now) (8 * c .before .before .before .loop .i) ≡ t
+  read-as t e = word-is _ _ _ (c .before .word-at .ensures) _ (omega (arith, c .before .before .loop-test .taken)) ∙ sym (c .is-gate .ensures) ∙ e
+
+module _ (c : tie.After-price-word Inv-loop μ-loop) where
+  cheap : c .price-word .result ≤ 85
   cheap =
-      let d = c .before .before .before .before in
-      let start = d .before .before .before .before .before .before in
-      rw (c .price-gate .ensures) (price-le _ _ _ (lines-are _ (start .pre) .1) (gives-gate _ _ _ _ (gives _ _ _ _ _ _ (sym (d .decode .ensures) ∙ c .before .before .operator .given .1))))
+      let b = c .before in
+      let d = b .before .before in
+      let six = lines-are _ (d .before .before .before .before .before .before .pre .0) .1 in
+      rw (c .price-word .ensures, ← word-gate _ _ _ (d .word-at .ensures)) (price-le _ _ _ six (gate-at _ _ _ six (read-as (b .before) _ (not-false _ (b .if2 .left)))))
 
 length-ok-requires : tie.Need-length-ok-requires Inv-loop μ-loop
 length-ok-requires c κs = search needs
@@ -53,27 +63,22 @@ returns c = sym (sound-length _ _ _ (sym (c .before .length-ok .ensures) ∙ not
 loop-holds : tie.Need-loop-holds Inv-loop μ-loop
 loop-holds c = record { passing = passing-start _ _ _; most = omega (arith, length-is _ (whole c)); small = search needs; value = rw (zero-add, sub-zero) }
 
-mul-decode : tie.Need-mul-decode Inv-loop μ-loop
-mul-decode c = search needs
+mul-word-at : tie.Need-mul-word-at Inv-loop μ-loop
+mul-word-at c = search needs
 
-decode-requires : tie.Need-decode-requires Inv-loop μ-loop
-decode-requires c κs = search needs
+word-at-requires : tie.Need-word-at-requires Inv-loop μ-loop
+word-at-requires c κs = omega arith
 
-enum-known-operator : tie.Need-enum-known-operator Inv-loop μ-loop
-enum-known-operator c = search needs
-
-enum-told : tie.Need-enum-told Inv-loop μ-loop
-enum-told c = search needs
+is-gate-requires : tie.Need-is-gate-requires Inv-loop μ-loop
+is-gate-requires c κs = lines-are _ (c .before .before .before .before .before .before .pre .0) .1
 
 returns-2 : tie.Need-returns-2 Inv-loop μ-loop
 returns-2 c =
     let d = c .before .before in
-    let e = d .before .before .before in
-    sym (sound-bad _ _ _ _ (whole e) (d .before .loop-test .taken)
-    (gives-no _ _ _ _ _ (e .before .before .before .pre) (sym (d .decode .ensures) ∙ c .enum-told .given .1)) (d .before .before .loop .inv .passing))
+    sym (sound-bad _ _ _ _ (whole (d .before .before .before)) (d .before .loop-test .taken) (read-as (c .before) _ (not-true _ (c .if2 .taken))) (d .before .before .loop .inv .passing))
 
-price-gate-requires : tie.Need-price-gate-requires Inv-loop μ-loop
-price-gate-requires c κs = search needs
+price-word-requires : tie.Need-price-word-requires Inv-loop μ-loop
+price-word-requires c κs = (word-low _ _ (sym (c .before .is-gate .ensures) ∙ not-false _ (c .if2 .left)), c .before .before .before .before .before .before .before .before .pre .1)
 
 add-cost : tie.Need-add-cost Inv-loop μ-loop
 add-cost c = omega (arith, cheap c)
@@ -86,15 +91,15 @@ loop-less c = search needs
 
 loop-again : tie.Need-loop-again Inv-loop μ-loop
 loop-again c =
-    let d = c .before .before .before .before in
+    let b = c .before in
+    let d = b .before .before in
     let i = d .before .before .loop .inv in
     let lt = d .before .loop-test .taken in
-    let h = gives _ _ _ _ _ _ (sym (d .decode .ensures) ∙ c .before .before .operator .given .1) in
     record {
-      passing = passing-next _ _ _ _ lt (h .is) (i .passing);
+      passing = passing-next _ _ _ _ lt (read-as (b .before) _ (not-false _ (b .if2 .left))) (i .passing);
       most = i .most;
       small = omega (arith, cheap c, i .small);
-      value = rw (c .price-gate .ensures, ← h .value) (price-more _ _ _ _ _ lt) ∙ i .value;
+      value = rw (c .price-word .ensures, ← word-gate _ _ _ (d .word-at .ensures)) (price-more _ _ _ _ _ lt) ∙ i .value;
     }
 
 returns-3 : tie.Need-returns-3 Inv-loop μ-loop
@@ -113,12 +118,11 @@ price-on-spec =
     length-ok-requires
     returns
     loop-holds
-    mul-decode
-    decode-requires
-    enum-known-operator
-    enum-told
+    mul-word-at
+    word-at-requires
+    is-gate-requires
     returns-2
-    price-gate-requires
+    price-word-requires
     add-cost
     add-i
     loop-less

@@ -1,109 +1,20 @@
--- `gates::encode` meets its contract: the eight stores are the record. Assumes nothing.
-use mathlib.Core.Path.{_≡_}
-use native.Mathlib.Nat.{div-one}
-use native.Mathlib.Numerals.{add-one, add-two, add-three, add-four, add-five, add-six, add-seven}
-use lib.ListN.{length-set}
-use native.Mathlib.Omega.{arith}
-use Rattle.digits.specs.Digits.{digit}
-use Rattle.gates.specs.Records.{recordOf}
+-- `gates::encode` meets its contract: the word of a gate is its record. Assumes nothing.
+use mathlib.Core.Path.{_∙_}
 use borrow.Author.Needs.{needs}
 use Rattle.gates.proofs.encode.Statement.{statement}
 use Rattle.gates.proofs.encode.Tie as tie
 
-slice-write-out : tie.Need-slice-write-out
-slice-write-out c = search needs
+word-of-requires : tie.Need-word-of-requires
+word-of-requires c κs = search needs
 
-add-out : tie.Need-add-out
-add-out c = search needs
-
-slice-write-out-2 : tie.Need-slice-write-out-2
-slice-write-out-2 c = simp length-set (omega arith)
-
-cast-out : tie.Need-cast-out
-cast-out c = search needs
-
-add-out-2 : tie.Need-add-out-2
-add-out-2 c = search needs
-
-slice-write-out-3 : tie.Need-slice-write-out-3
-slice-write-out-3 c = simp length-set (omega arith)
-
-cast-out-2 : tie.Need-cast-out-2
-cast-out-2 c = search needs
-
-add-out-3 : tie.Need-add-out-3
-add-out-3 c = search needs
-
-slice-write-out-4 : tie.Need-slice-write-out-4
-slice-write-out-4 c = simp length-set (omega arith)
-
-cast-out-3 : tie.Need-cast-out-3
-cast-out-3 c = search needs
-
-add-out-4 : tie.Need-add-out-4
-add-out-4 c = search needs
-
-slice-write-out-5 : tie.Need-slice-write-out-5
-slice-write-out-5 c = simp length-set (omega arith)
-
-cast-out-4 : tie.Need-cast-out-4
-cast-out-4 c = search needs
-
-add-out-5 : tie.Need-add-out-5
-add-out-5 c = search needs
-
-slice-write-out-6 : tie.Need-slice-write-out-6
-slice-write-out-6 c = simp length-set (omega arith)
-
-cast-out-5 : tie.Need-cast-out-5
-cast-out-5 c = search needs
-
-add-out-6 : tie.Need-add-out-6
-add-out-6 c = search needs
-
-slice-write-out-7 : tie.Need-slice-write-out-7
-slice-write-out-7 c = simp length-set (omega arith)
-
-cast-out-6 : tie.Need-cast-out-6
-cast-out-6 c = search needs
-
-add-out-7 : tie.Need-add-out-7
-add-out-7 c = search needs
-
-slice-write-out-8 : tie.Need-slice-write-out-8
-slice-write-out-8 c = simp length-set (omega arith)
+store-requires : tie.Need-store-requires
+store-requires c κs = search needs
 
 same-length : tie.Need-same-length
-same-length c = simp length-set
+same-length c = search needs
 
 returns : tie.Need-returns
-unfolding recordOf digit
-returns c = simp (add-one, add-two, add-three, add-four, add-five, add-six, add-seven, div-one)
+returns c = c .before .before .store .ensures ∙ rw (c .before .before .before .before .word-of .ensures)
 
 pub encode-spec : {M : Type 1} → statement M
-encode-spec =
-    tie.close
-    (tie.spec
-    slice-write-out
-    add-out
-    slice-write-out-2
-    cast-out
-    add-out-2
-    slice-write-out-3
-    cast-out-2
-    add-out-3
-    slice-write-out-4
-    cast-out-3
-    add-out-4
-    slice-write-out-5
-    cast-out-4
-    add-out-5
-    slice-write-out-6
-    cast-out-5
-    add-out-6
-    slice-write-out-7
-    cast-out-6
-    add-out-7
-    slice-write-out-8
-    same-length
-    returns)
+encode-spec = tie.close (tie.spec word-of-requires store-requires same-length returns)
