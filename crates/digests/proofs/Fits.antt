@@ -1,0 +1,84 @@
+-- Where a call accepts, what it has written lies within the room that was lent to it. Assumes nothing.
+use mathlib.Core.Path.{_≡_, refl, sym, _∙_}
+use mathlib.Core.Bool.{Bool, true, false}
+use mathlib.Core.Logic.{_⊎_}
+use mathlib.Core.List.{List, [], _∷_}
+use Prim.Native.Nat.{ℕ, _*_, _/_, _^_, _≤_}
+use native.Mathlib.Omega.{arith}
+use lib.Dec.{ltb}
+use lib.ListN.{length}
+use borrow.Author.Tests.{ltb-false, not-false}
+use Rattle.card.specs.Card.{Answer, Answer.accepted, Answer.refused, refusing, onLines}
+use Rattle.card.proofs.Cards.{lines-are}
+use Rattle.tables.specs.Permutations.{Permutation}
+use Rattle.tables.specs.Tables.{tabled}
+use Rattle.tables.proofs.Accepts.{Refuses, tabled-is, tabled-permutation}
+use Rattle.cascades.specs.Cascades.{records, gatesOf}
+use Rattle.cascades.specs.Answers.{sound, tabulateAnswer, invertAnswer}
+use Rattle.cascades.proofs.Cascades.{gates-count, whole-cascade}
+use Rattle.cascades.proofs.Sounds.{sound-whole}
+use Rattle.synthesis.specs.Synthesis.{synthesized, bound, synthesizeAnswer}
+use Rattle.synthesis.proofs.Synthesis.{synthesized-bound}
+use Rattle.tidying.specs.Tidying.{tidied, tidyAnswer}
+use Rattle.tidying.proofs.Promises.{tidied-count}
+
+-- an accepted answer is no refusal
+never : {A : Type 0} (k p : ℕ) (vs : List ℕ) → accepted vs ≡ refused k p → A
+never k p vs e = let z : _≡_ {A = ℕ} 0 1 = cc in absurd (omega arith)
+
+-- it was passed on by each refusal before it
+passed-on : (bad : Bool) (k p : ℕ) (x : Answer) (vs : List ℕ) → accepted vs ≡ refusing bad k p x → (bad ≡ false) × (accepted vs ≡ x)
+unfolding refusing
+passed-on true k p x vs e = never k p vs e
+passed-on false k p x vs e = (refl, e)
+
+-- by 1, 6 and 7 of a cascade
+beyond : (n : ℕ) (b : List ℕ) (x : Answer) (vs : List ℕ) → accepted vs ≡ onLines n (sound n b x) → accepted vs ≡ x
+unfolding onLines sound
+beyond n b x vs e = passed-on _ 7 _ _ vs (passed-on _ 6 _ _ vs (passed-on _ 1 _ _ vs e .1) .1) .1
+
+-- refusal 5 is given where the room is less than asked
+roomy : (room asked : ℕ) (v m : ℕ) → accepted (m ∷ []) ≡ refusing (ltb room asked) 5 asked (accepted (v ∷ [])) → (asked ≤ room) × (m ≡ v)
+roomy room asked v m e =
+    let p = passed-on (ltb room asked) 5 asked (accepted (v ∷ [])) (m ∷ []) e in
+    let a : accepted (m ∷ []) ≡ accepted (v ∷ []) = p .1 in
+    let s : m ≡ v = cc in
+    (ltb-false room asked (p .0), s)
+
+-- ---- the calls that write, or tidy, in a room of so many entries or bytes
+
+pub table-fits : (n : ℕ) (b : List ℕ) (room m : ℕ) → accepted (m ∷ []) ≡ tabulateAnswer n b room → m ≤ room
+unfolding tabulateAnswer
+table-fits n b room m e =
+    let r = roomy room (3 ^ n) (3 ^ n) m (beyond n b _ (m ∷ []) e) in
+    omega (arith, r .0, r .1)
+
+pub inverse-fits : (n : ℕ) (b : List ℕ) (room m : ℕ) → accepted (m ∷ []) ≡ invertAnswer n b room → 8 * m ≤ room
+unfolding invertAnswer
+inverse-fits n b room m e =
+    let r = roomy (room / 8) (records b) (records b) m (beyond n b _ (m ∷ []) e) in
+    omega (arith, r .0, r .1)
+
+pub left-fits : (n : ℕ) (b : List ℕ) (left steps : ℕ) → accepted (left ∷ steps ∷ []) ≡ tidyAnswer n b → 8 * left ≤ length b
+unfolding tidyAnswer
+left-fits n b left steps e =
+    let a : accepted (left ∷ steps ∷ []) ≡ accepted (length (tidied (gatesOf b) .left) ∷ tidied (gatesOf b) .steps ∷ []) = beyond n b _ (left ∷ steps ∷ []) e in
+    let s : left ≡ length (tidied (gatesOf b) .left) = cc in
+    let ok = whole-cascade n b _ (sound-whole n b _ _ (sym e)) in
+    omega (arith, s, tidied-count n (gatesOf b) ok, gates-count b)
+
+-- passed on by 2, 3 and 4, the table is a permutation
+tabled-on : (n : ℕ) (t : List ℕ) (x : Answer) (vs : List ℕ) → accepted vs ≡ tabled n t x → Permutation 3 n t × (accepted vs ≡ x)
+tabled-on n t x vs e = go (tabled-is n t)
+  where
+    go : Permutation 3 n t ⊎ Refuses n t → Permutation 3 n t × (accepted vs ≡ x)
+    go (_⊎_.inl perm) = (perm, e ∙ tabled-permutation n t perm x)
+    go (_⊎_.inr r) = never (r .number) (r .place) vs (e ∙ r .always x)
+
+pub cascade-fits : (n : ℕ) (t : List ℕ) (room m : ℕ) → accepted (m ∷ []) ≡ synthesizeAnswer n t room → 8 * m ≤ room
+unfolding synthesizeAnswer onLines
+cascade-fits n t room m e =
+    let o = passed-on _ 1 0 _ (m ∷ []) e in
+    let p = tabled-on n t _ (m ∷ []) (o .1) in
+    let r = roomy (room / 8) (bound n) (length (synthesized n t)) m (p .1) in
+    omega (arith, r .0, r .1, synthesized-bound n t (lines-are n (not-false _ (o .0)) .1) (p .0))

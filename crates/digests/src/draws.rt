@@ -1,0 +1,146 @@
+// What is drawn by the generator: tables, gates, cascades, and cascades dense with gates of few kinds.
+// Each function takes the generator's state, and answers with the state after its last draw.
+ghost use Prim.Native.Nat.{_+_, _<_, _≤_};
+ghost use lib.ListN.{length};
+
+// The state after the next draw.
+fn advance(state: u32) -> u32 {
+    ((state as u64 * 1664525 + 1013904223) % 4294967296) as u32
+}
+
+// The number below an end that was drawn with this state.
+fn below(state: u32, end: usize) -> usize
+    requires { ⌜ 0 < end ⌝ }
+    ensures { λ r. ⌜ r < end ⌝ }
+{
+    (state / 65536) as usize % end
+}
+
+// A table: the identity, each entry from the last on exchanged with one drawn among those up to it.
+pub fn draw_table(state: u32, table: &mut [u16]) -> u32
+    requires { ⌜ length (now table) ≤ 729 ⌝ }
+{
+    crate::orders::write_first(table);
+    let mut s = state;
+    let mut end = table.len();
+    while 1 < end {
+        s = advance(s);
+        let j = below(s, end);
+        end = end - 1;
+        crate::orders::exchange(table, end, j);
+    }
+    s
+}
+
+// The control byte for a number below 6: half of the draws give no control.
+fn control(v: usize) -> u8 {
+    match v {
+        0 => 0,
+        1 => 1,
+        2 => 2,
+        _ => 3,
+    }
+}
+
+// The control on line k. None is drawn for the target and for lines that are not there.
+fn draw_control(
+    state: u32,
+    lines: usize,
+    target: usize,
+    k: usize,
+    room: &mut [u8],
+    at: usize,
+) -> u32
+    requires { ⌜ at < length (now room) ⌝ }
+{
+    if k == target || lines <= k {
+        room[at] = 3;
+        return state;
+    }
+    let s = advance(state);
+    room[at] = control(below(s, 6));
+    s
+}
+
+// The controls on the six lines.
+fn draw_controls(state: u32, lines: usize, target: usize, room: &mut [u8], at: usize) -> u32
+    requires { ⌜ at + 6 ≤ length (now room) ⌝ }
+{
+    let mut s = state;
+    let mut k: usize = 0;
+    while k < 6 {
+        s = draw_control(s, lines, target, k, room, at + k);
+        k = k + 1;
+    }
+    s
+}
+
+// A gate's record: the target is drawn first, then the operator, then the controls.
+fn draw_gate(state: u32, lines: usize, room: &mut [u8], at: usize) -> u32
+    requires { ⌜ (0 < lines) × (lines ≤ 6) × (at + 8 ≤ length (now room)) ⌝ }
+{
+    let first = advance(state);
+    let target = below(first, lines);
+    let second = advance(first);
+    let operator = below(second, 5) + 1;
+    room[at] = operator as u8;
+    room[at + 1] = target as u8;
+    draw_controls(second, lines, target, room, at + 2)
+}
+
+// Gates that fill the room.
+fn draw_gates(state: u32, lines: usize, room: &mut [u8]) -> u32
+    requires { ⌜ (0 < lines) × (lines ≤ 6) ⌝ }
+{
+    let count = room.len() / 8;
+    let mut s = state;
+    let mut i: usize = 0;
+    while i < count {
+        s = draw_gate(s, lines, room, 8 * i);
+        i = i + 1;
+    }
+    s
+}
+
+// The record at a place, copied to a place of the room.
+fn copy_record(records: &[u8], from: usize, room: &mut [u8], to: usize)
+    requires { ⌜ (from + 8 ≤ length (now records)) × (to + 8 ≤ length (now room)) ⌝ }
+{
+    let mut i: usize = 0;
+    while i < 8 {
+        room[to + i] = records[from + i];
+        i = i + 1;
+    }
+}
+
+// Gates that fill the room, each of one of eight kinds.
+fn draw_kinds(state: u32, kinds: &[u8; 64], room: &mut [u8]) -> u32 {
+    let count = room.len() / 8;
+    let mut s = state;
+    let mut i: usize = 0;
+    while i < count {
+        s = advance(s);
+        copy_record(kinds, 8 * below(s, 8), room, 8 * i);
+        i = i + 1;
+    }
+    s
+}
+
+// A cascade that fills the room, with gates of eight kinds, which are drawn before it.
+fn draw_dense(state: u32, lines: usize, room: &mut [u8]) -> u32
+    requires { ⌜ (0 < lines) × (lines ≤ 6) ⌝ }
+{
+    let mut kinds = [0u8; 64];
+    let drawn = draw_gates(state, lines, &mut kinds);
+    draw_kinds(drawn, &kinds, room)
+}
+
+// A cascade that fills the room.
+pub fn draw_cascade(dense: bool, state: u32, lines: usize, room: &mut [u8]) -> u32
+    requires { ⌜ (0 < lines) × (lines ≤ 6) ⌝ }
+{
+    if dense {
+        return draw_dense(state, lines, room);
+    }
+    draw_gates(state, lines, room)
+}

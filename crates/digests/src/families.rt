@@ -1,0 +1,123 @@
+// The families: every table on two lines, drawn tables, and drawn cascades, dense or not.
+// A family's loop works in lent arrays; the function that lends them prints its sums.
+ghost use Prim.Native.Nat.{_<_, _≤_};
+ghost use lib.ListN.{length};
+use crate::adding::add_cascade;
+use crate::adding::add_table;
+use crate::sums::Sums;
+
+// All tables on two lines, from the identity on: 9! = 362,880 of them.
+fn sum_all_tables(
+    table: &mut [u16],
+    room: &mut [u8],
+    inverse: &mut [u8],
+    entries: &mut [u16],
+) -> Sums
+    requires { ⌜ length (now table) ≤ 729 ⌝ }
+{
+    crate::orders::write_first(table);
+    let mut sums = crate::sums::nothing();
+    let mut left: u32 = 362880;
+    while 0 < left {
+        sums = add_table(sums, 2, table, room, inverse, entries);
+        crate::orders::write_next(table);
+        left = left - 1;
+    }
+    sums
+}
+
+// So many drawn tables.
+fn sum_drawn_tables(
+    lines: u8,
+    seed: u32,
+    count: u32,
+    table: &mut [u16],
+    room: &mut [u8],
+    inverse: &mut [u8],
+    entries: &mut [u16],
+) -> Sums
+    requires { ⌜ length (now table) ≤ 729 ⌝ }
+{
+    let mut sums = crate::sums::nothing();
+    let mut state = seed;
+    let mut left = count;
+    while 0 < left {
+        state = crate::draws::draw_table(state, table);
+        sums = add_table(sums, lines, table, room, inverse, entries);
+        left = left - 1;
+    }
+    sums
+}
+
+// So many drawn cascades, each as long as the lent bytes.
+fn sum_cascades(
+    dense: bool,
+    lines: u8,
+    seed: u32,
+    count: u32,
+    cascade: &mut [u8],
+    inverse: &mut [u8],
+    entries: &mut [u16],
+) -> Sums
+    requires { ⌜ (0 < lines) × (lines ≤ 6) ⌝ }
+{
+    let mut sums = crate::sums::nothing();
+    let mut state = seed;
+    let mut left = count;
+    while 0 < left {
+        state = crate::draws::draw_cascade(dense, state, lines as usize, cascade);
+        sums = add_cascade(sums, lines, cascade, inverse, entries);
+        left = left - 1;
+    }
+    sums
+}
+
+// Rooms of 112 bytes take the 14 records that synthesis asks for at two lines.
+pub fn print_all_tables() {
+    let mut table = [0u16; 9];
+    let mut room = [0u8; 112];
+    let mut inverse = [0u8; 112];
+    let mut entries = [0u16; 9];
+    let sums = sum_all_tables(&mut table, &mut room, &mut inverse, &mut entries);
+    crate::printing::print_family(b"tables ", 2, sums);
+}
+
+// Rooms of 32,080 bytes take the 4,010 records that synthesis asks for at six lines.
+pub fn print_drawn_tables(lines: u8, seed: u32, count: u32)
+    requires { ⌜ lines ≤ 6 ⌝ }
+{
+    let size = digits::power(lines as usize) as usize;
+    let mut table = [0u16; 729];
+    let mut room = [0u8; 32080];
+    let mut inverse = [0u8; 32080];
+    let mut entries = [0u16; 729];
+    let sums = sum_drawn_tables(
+        lines,
+        seed,
+        count,
+        &mut table[..size],
+        &mut room,
+        &mut inverse,
+        &mut entries,
+    );
+    crate::printing::print_family(b"tables ", lines, sums);
+}
+
+// Cascades of 60 gates, each drawn by itself, or dense: each one of eight kinds.
+pub fn print_cascades(name: &[u8], dense: bool, lines: u8, seed: u32, count: u32)
+    requires { ⌜ (0 < lines) × (lines ≤ 6) ⌝ }
+{
+    let mut cascade = [0u8; 480];
+    let mut inverse = [0u8; 480];
+    let mut entries = [0u16; 729];
+    let sums = sum_cascades(
+        dense,
+        lines,
+        seed,
+        count,
+        &mut cascade,
+        &mut inverse,
+        &mut entries,
+    );
+    crate::printing::print_family(name, lines, sums);
+}
