@@ -1,12 +1,14 @@
 -- The counts of a gate's controls from the marks on its bytes: modulo 255 each byte has the weight 1. Assumes nothing.
 use mathlib.Core.Path.{_≡_, refl, sym, ap, _∙_}
 use mathlib.Core.Bool.{Bool, true, false, cond, _||_}
-use Prim.Native.Nat.{ℕ, _+_, _-_, _*_, _%_, _^_, _≤_, _<_}
+use mathlib.Core.List.{[], _∷_}
+use Prim.Native.Nat.{ℕ, _+_, _*_, _%_, _^_, _≤_, _<_}
 use native.Mathlib.Nat.{lt-of-le-of-lt}
 use native.Mathlib.Omega.{arith}
-use lib.Dec.{eqb, leb}
+use lib.Dec.{eqb}
+use lib.ListN.{getD}
 use lib.Bits.{bitAnd, and-le-r}
-use borrow.Author.Tests.{eqb-true, leb-true, le-leb}
+use borrow.Author.Tests.{eqb-true}
 use Rattle.ranges.specs.Ranges.{every, sum}
 use Rattle.ranges.proofs.Tests.{every-below}
 use Rattle.ranges.proofs.Sums.{sum-ext, sum-le}
@@ -20,13 +22,10 @@ use Rattle.gates.proofs.Marks.{control-mark, other-mark, marks-lt, control-word
 use Rattle.cascades.specs.Prices.{base, controlCount, others}
 use Rattle.cascades.proofs.Costs.{one-at-most}
 
--- the base price of two controls or more, at once
-pub base-closed : (k : ℕ) → 2 ≤ k → k ≤ 6 → (5 ≤ (10 * 2 ^ (k - 2)) % 4294967296) × ((10 * 2 ^ (k - 2)) % 4294967296 - 5 ≡ base k)
+-- the base prices up to six controls
+pub base-row : (k : ℕ) → k ≤ 6 → getD (1 ∷ 1 ∷ 5 ∷ 15 ∷ 35 ∷ 75 ∷ 155 ∷ []) k 0 ≡ base k
 unfolding every base
-base-closed k two six =
-    let some = every-below (λ k. leb 5 ((10 * 2 ^ (k - 2)) % 4294967296)) 7 refl k (omega arith) in
-    let same = every-below (λ k. cond (leb 2 k) (eqb ((10 * 2 ^ (k - 2)) % 4294967296 - 5) (base k)) true) 7 refl k (omega arith) in
-    (leb-true _ _ some, eqb-true _ _ (rw (le-leb 2 k two) at same))
+base-row k le = eqb-true _ _ (every-below (λ k. eqb (getD (1 ∷ 1 ∷ 5 ∷ 15 ∷ 35 ∷ 75 ∷ 155 ∷ []) k 0) (base k)) 7 refl k (omega arith))
 
 -- six bytes are their sum and a multiple of 255
 bytes-sum : (f : ℕ → ℕ) → pack 256 f 6 ≡ sum f 0 6 + 255 * (f 1 + 257 * f 2 + 65793 * f 3 + 16843009 * f 4 + 4311810305 * f 5)

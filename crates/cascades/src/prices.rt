@@ -4,15 +4,13 @@ ghost use Prim.Native.Nat.{_≤_};
 ghost use Rattle.gates.specs.Words.{Low, gateOf};
 ghost use Rattle.cascades.specs.Prices.{base, gatePrice};
 
-// The base price of k controls: twice what it was and five more, k - 2 times from five on.
+// The base price of k controls.
 fn base_price(k: u64) -> u32
     requires { ⌜ k ≤ 6 ⌝ }
     ensures { λ r. ⌜ r ≡ base k ⌝ }
 {
-    if k < 2 {
-        return 1;
-    }
-    (10 << (k - 2)) - 5
+    let prices = [1u32, 1, 5, 15, 35, 75, 155];
+    prices[k as usize]
 }
 
 // The price at the global control value v of the gate that a record writes down. Its controls are marked, and those with another value than v
