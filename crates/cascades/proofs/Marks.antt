@@ -15,7 +15,7 @@ use Rattle.ranges.proofs.Sums.{sum-ext, sum-le}
 use Rattle.digits.specs.Digits.{digit, pack}
 use Rattle.digits.proofs.Digits.{digits-equal}
 use Rattle.digits.proofs.Packs.{pack-lt, digit-pack}
-use Rattle.digits.proofs.Bits.{digit-and}
+use Rattle.digits.proofs.Bits.{digit-and, bytes-sum}
 use Rattle.gates.specs.Gates.{control}
 use Rattle.gates.specs.Words.{byte, gateOf, Low, controlMarks, otherMarks}
 use Rattle.gates.proofs.Marks.{control-mark, other-mark, marks-lt, control-word}
@@ -26,11 +26,6 @@ use Rattle.cascades.proofs.Costs.{one-at-most}
 pub base-row : (k : ℕ) → k ≤ 6 → getD (1 ∷ 1 ∷ 5 ∷ 15 ∷ 35 ∷ 75 ∷ 155 ∷ []) k 0 ≡ base k
 unfolding every base
 base-row k le = eqb-true _ _ (every-below (λ k. eqb (getD (1 ∷ 1 ∷ 5 ∷ 15 ∷ 35 ∷ 75 ∷ 155 ∷ []) k 0) (base k)) 7 refl k (omega arith))
-
--- six bytes are their sum and a multiple of 255
-bytes-sum : (f : ℕ → ℕ) → pack 256 f 6 ≡ sum f 0 6 + 255 * (f 1 + 257 * f 2 + 65793 * f 3 + 16843009 * f 4 + 4311810305 * f 5)
-unfolding pack sum
-bytes-sum f = omega arith
 
 -- bytes that are 0 or 1, counted: those of f once, those of g 16 times
 both-counted : (f g : ℕ → ℕ) → ((k : ℕ) → f k ≤ 1) → ((k : ℕ) → g k ≤ 1) → (pack 256 f 6 + 16 * pack 256 g 6) % 255 ≡ sum f 0 6 + 16 * sum g 0 6

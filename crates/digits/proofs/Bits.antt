@@ -1,10 +1,11 @@
 -- Digits in a radix that is a power of two, under the operations on bits: these work digit by digit. Assumes nothing.
 use mathlib.Core.Path.{_≡_, refl, sym, ap, _∙_}
-use Prim.Native.Nat.{ℕ, zero, suc, _+_, _/_, _%_, _^_, _<_}
+use Prim.Native.Nat.{ℕ, zero, suc, _+_, _*_, _/_, _%_, _^_, _<_}
 use native.Mathlib.Nat.{pow-zero}
 use native.Mathlib.Omega.{arith}
 use lib.Bits.{bitAnd, bitOr, bitXor, and-shr, and-mod, or-shr, or-mod, xor-shr, xor-mod}
-use Rattle.digits.specs.Digits.{digit}
+use Rattle.ranges.specs.Ranges.{sum}
+use Rattle.digits.specs.Digits.{digit, pack}
 use Rattle.digits.proofs.Digits.{digit-zero, digit-suc, digit-high, digits-equal}
 
 module _ (op : ℕ → ℕ → ℕ) (shr : (a b k : ℕ) → op a b / 2 ^ k ≡ op (a / 2 ^ k) (b / 2 ^ k)) (low : (a b k : ℕ) → op a b % 2 ^ k ≡ op (a % 2 ^ k) (b % 2 ^ k)) where
@@ -34,3 +35,8 @@ digit-of-zero r k pos = digit-high r 0 k 0 pos (rw pow-zero (omega arith)) (omeg
 
 pub zero-digits : (r m p : ℕ) → 0 < r → 0 < r ^ m → p < r ^ m → ((k : ℕ) → k < m → digit r k p ≡ 0) → p ≡ 0
 zero-digits r m p pos some lt h = digits-equal r m p 0 pos lt some (λ k l. h k l ∙ sym (digit-of-zero r k pos))
+
+-- six bytes are their sum and a multiple of 255
+pub bytes-sum : (f : ℕ → ℕ) → pack 256 f 6 ≡ sum f 0 6 + 255 * (f 1 + 257 * f 2 + 65793 * f 3 + 16843009 * f 4 + 4311810305 * f 5)
+unfolding pack sum
+bytes-sum f = omega arith

@@ -230,7 +230,7 @@ module _ (a b c0 c1 c2 c3 c4 c5 : ℕ) (la : a < 256) (lb : b < 256) (l0 : c0 < 
 
 module _ (b : List ℕ) (at w : ℕ) (read : Word b at w) where
   -- byte 2 + k of the word is byte at + 2 + k
-  control-byte : (k : ℕ) → k < 6 → byte (2 + k) w ≡ getD b (at + 2 + k) 0
+  pub control-byte : (k : ℕ) → k < 6 → byte (2 + k) w ≡ getD b (at + 2 + k) 0
   control-byte k lt = rw (add-assoc at 2 k) (read .bytes (2 + k) (omega arith))
 
   operator-byte : byte 0 w ≡ getD b at 0

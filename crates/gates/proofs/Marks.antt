@@ -13,10 +13,11 @@ use borrow.Author.Tests.{eqb-true, ltb-true}
 use Rattle.ranges.specs.Ranges.{every, sum}
 use Rattle.ranges.proofs.Bools.{decide}
 use Rattle.ranges.proofs.Tests.{every-below, every-ext}
+use Rattle.ranges.proofs.Sums.{sum-le}
 use Rattle.digits.specs.Digits.{digit, put, pack}
 use Rattle.digits.proofs.Digits.{digit-lt, digit-put-same, digit-put-other, put-lt, digits-equal}
 use Rattle.digits.proofs.Packs.{pack-lt, pack-ext, pack-digits, digit-pack}
-use Rattle.digits.proofs.Bits.{digit-and, digit-or, digit-xor, byte-half}
+use Rattle.digits.proofs.Bits.{digit-and, digit-or, digit-xor, byte-half, bytes-sum}
 use Rattle.gates.specs.declared.Gate.{Gate}
 use Rattle.gates.specs.Gates.{act, control, holds, firesOn, fires, applied}
 use Rattle.gates.specs.Words.{byte, gateOf, Low, Held, controlMarks, otherMarks, Spread, firesIn, movedBy}
@@ -111,6 +112,17 @@ other-mark w d k lt = digit-pack 256 (λ k. cond (eqb (byte (2 + k) w) (byte k d
 pub marks-lt : (w : ℕ) → controlMarks w < 256 ^ 6
 unfolding controlMarks
 marks-lt w = pack-lt 256 (λ k. cond (eqb (byte (2 + k) w) 3) 0 1) 6 (λ k lt. mark-lt (eqb (byte (2 + k) w) 3))
+
+-- how many there are: modulo 255 each byte has the weight 1
+pub marks-counted : (w : ℕ) → controlMarks w % 255 ≡ sum (λ k. cond (eqb (byte (2 + k) w) 3) 0 1) 0 6
+unfolding controlMarks
+marks-counted w =
+    let few = sum-le (λ k. cond (eqb (byte (2 + k) w) 3) 0 1) 1 0 6 (λ k. one-most (eqb (byte (2 + k) w) 3)) in
+    omega (arith, bytes-sum (λ k. cond (eqb (byte (2 + k) w) 3) 0 1), few)
+  where
+    one-most : (b : Bool) → cond b 0 1 ≤ 1
+    one-most true = omega arith
+    one-most false = omega arith
 
 -- ---- when a gate fires
 

@@ -4,7 +4,7 @@ use mathlib.Core.Path.{_≡_, refl, sym, ap, _∙_}
 use mathlib.Core.Bool.{Bool, true, false, cond}
 use mathlib.Core.Logic.{_⊎_, ⊎-elim}
 use mathlib.Core.List.{List, [], _∷_, _++_}
-use Prim.Native.Nat.{ℕ, zero, suc, _+_, _-_, _*_, _≤_, _<_}
+use Prim.Native.Nat.{ℕ, zero, suc, _+_, _-_, _*_, _%_, _≤_, _<_}
 use native.Mathlib.Nat.{mul-suc}
 use native.Mathlib.Omega.{arith}
 use lib.Dec.{eqb}
@@ -18,7 +18,10 @@ use Rattle.digits.proofs.Digits.{digit-lt}
 use Rattle.gates.specs.declared.Gate.{Gate}
 use Rattle.gates.specs.Gates.{control, IsGate}
 use Rattle.gates.specs.Records.{isRecord, gateAt}
+use Rattle.gates.specs.Words.{byte, Word, controlMarks}
 use Rattle.gates.proofs.Records.{reads, gate-at}
+use Rattle.gates.proofs.Bytes.{control-byte}
+use Rattle.gates.proofs.Marks.{marks-counted}
 use Rattle.cascades.specs.Cascades.{Cascade}
 use Rattle.cascades.specs.Prices.{cascadePrice}
 use Rattle.cascades.proofs.Costs.{cost-fits}
@@ -66,6 +69,17 @@ five-most false = omega arith
 
 pub bytes-few : (b : List ℕ) (at : ℕ) → sum (bytesAt b at) 0 6 ≤ 30
 bytes-few b at = sum-le (bytesAt b at) 5 0 6 (λ k. five-most (eqb (getD b (at + 2 + k) 0) 3))
+
+-- as many as there are marks on the record's word, five times
+pub bytes-marked : (b : List ℕ) (at w : ℕ) → Word b at w → 5 * (controlMarks w % 255) ≡ sum (bytesAt b at) 0 6
+unfolding sum
+bytes-marked b at w read =
+    let one : (k : ℕ) → k < 6 → bytesAt b at k ≡ 5 * cond (eqb (byte (2 + k) w) 3) 0 1 = λ k lt. rw (control-byte b at w read k lt) (five (eqb (getD b (at + 2 + k) 0) 3)) in
+    omega (arith, marks-counted w, one 0 (omega arith), one 1 (omega arith), one 2 (omega arith), one 3 (omega arith), one 4 (omega arith), one 5 (omega arith))
+  where
+    five : (t : Bool) → cond t 0 5 ≡ 5 * cond t 0 1
+    five true = refl
+    five false = refl
 
 module _ (n : ℕ) (b : List ℕ) (at : ℕ) (six : n ≤ 6) (is : isRecord n b at ≡ true) where
   length-record : length (gateText (gateAt b at)) ≡ length (nameOf (getD b at 0)) + (4 + sum (bytesAt b at) 0 6)

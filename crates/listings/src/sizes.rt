@@ -11,25 +11,13 @@ ghost use Rattle.cascades.specs.Prices.{cascadePrice};
 ghost use Rattle.listings.specs.Listings.{gateText, gateTexts, listingText};
 use super::numbers;
 
-// The bytes of a control: none where there is no control.
-fn size_control(c: u8) -> usize
-    ensures { λ r. ⌜ r ≡ cond (eqb c 3) 0 5 ⌝ }
-{
-    if c == 3 { 0 } else { 5 }
-}
-
-// The bytes of the six controls of a record.
-fn size_controls(cascade: &[u8], from: usize) -> usize
-    requires { ⌜ from + 8 ≤ length (now cascade) ⌝ }
+// The bytes of the six controls of a record: five for each.
+fn size_controls(lines: u8, cascade: &[u8], from: usize) -> usize
+    requires { ⌜ isRecord lines (now cascade) from ≡ true ⌝ }
     ensures { λ r. ⌜ r ≡ sum (λ k. cond (eqb (getD (now (cascade .entry)) (from + 2 + k) 0) 3) 0 5) 0 6 ⌝ }
 {
-    let mut size: usize = 0;
-    let mut k: usize = 0;
-    while k < 6 {
-        size = size + size_control(cascade[from + 2 + k]);
-        k = k + 1;
-    }
-    size
+    let w = gates::words::word_at(cascade, from);
+    5 * (gates::words::mark_controls(w) % 255) as usize
 }
 
 // The bytes of a gate's line: the names C1 and C2 have two.
@@ -37,7 +25,7 @@ fn size_gate(lines: u8, cascade: &[u8], from: usize) -> usize
     requires { ⌜ (lines ≤ 6) × (isRecord lines (now cascade) from ≡ true) ⌝ }
     ensures { λ r. ⌜ r ≡ length (gateText (gateAt (now (cascade .entry)) from)) ⌝ }
 {
-    let rest = 4 + size_controls(cascade, from);
+    let rest = 4 + size_controls(lines, cascade, from);
     if cascade[from] < 3 {
         2 + rest
     } else {

@@ -13,7 +13,7 @@ module _ (c : tie.After-size-controls) where
       rw (c .size-controls .ensures) (bytes-few (a .cascade .now) (a .from))
 
 size-controls-requires : tie.Need-size-controls-requires
-size-controls-requires c κs = reads _ _ _ (c .before .pre .1) .fits
+size-controls-requires c κs = c .before .pre .1
 
 add-rest : tie.Need-add-rest
 add-rest c = omega (arith, few c)
