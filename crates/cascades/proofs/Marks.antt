@@ -1,12 +1,10 @@
 -- The counts of a gate's controls from the marks on its bytes: modulo 255 each byte has the weight 1. Assumes nothing.
 use mathlib.Core.Path.{_≡_, refl, sym, ap, _∙_}
 use mathlib.Core.Bool.{Bool, true, false, cond, _||_}
-use mathlib.Core.List.{[], _∷_}
 use Prim.Native.Nat.{ℕ, _+_, _*_, _%_, _^_, _≤_, _<_}
 use native.Mathlib.Nat.{lt-of-le-of-lt}
 use native.Mathlib.Omega.{arith}
 use lib.Dec.{eqb}
-use lib.ListN.{getD}
 use lib.Bits.{bitAnd, and-le-r}
 use borrow.Author.Tests.{eqb-true}
 use Rattle.ranges.specs.Ranges.{every, sum}
@@ -19,13 +17,8 @@ use Rattle.digits.proofs.Bits.{digit-and, bytes-sum}
 use Rattle.gates.specs.Gates.{control}
 use Rattle.gates.specs.Words.{byte, gateOf, Low, controlMarks, otherMarks}
 use Rattle.gates.proofs.Marks.{control-mark, other-mark, marks-lt, control-word}
-use Rattle.cascades.specs.Prices.{base, controlCount, others}
+use Rattle.cascades.specs.Prices.{controlCount, others}
 use Rattle.cascades.proofs.Costs.{one-at-most}
-
--- the base prices up to six controls
-pub base-row : (k : ℕ) → k ≤ 6 → getD (1 ∷ 1 ∷ 5 ∷ 15 ∷ 35 ∷ 75 ∷ 155 ∷ []) k 0 ≡ base k
-unfolding every base
-base-row k le = eqb-true _ _ (every-below (λ k. eqb (getD (1 ∷ 1 ∷ 5 ∷ 15 ∷ 35 ∷ 75 ∷ 155 ∷ []) k 0) (base k)) 7 refl k (omega arith))
 
 -- bytes that are 0 or 1, counted: those of f once, those of g 16 times
 both-counted : (f g : ℕ → ℕ) → ((k : ℕ) → f k ≤ 1) → ((k : ℕ) → g k ≤ 1) → (pack 256 f 6 + 16 * pack 256 g 6) % 255 ≡ sum f 0 6 + 16 * sum g 0 6

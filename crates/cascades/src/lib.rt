@@ -6,7 +6,8 @@ ghost use mathlib.Core.List.{_∷_, []};
 ghost use lib.ListN.{length};
 ghost use Rattle.card.specs.Card.{linesOk, Answer.accepted};
 ghost use Rattle.cascades.specs.Cascades.{gatesOf, ran};
-ghost use Rattle.cascades.specs.Prices.{cascadePrice};
+ghost use Rattle.ranges.specs.Ranges.{span};
+ghost use Rattle.cascades.specs.Prices.{base, cascadePrice};
 ghost use Rattle.cascades.specs.Answers.{countedAs, ranAs, tabulatedAs, pricedAs, sound, checkAnswer, runAnswer, tabulateAnswer, tabulateRoom, invertAnswer, invertRoom, priceAnswer};
 
 pub mod lengths;
@@ -14,6 +15,8 @@ mod prices;
 pub mod scan;
 mod undo;
 pub mod whole;
+
+use gates::Record;
 
 // So many gates, counted or written.
 pub enum Counted {
@@ -81,14 +84,18 @@ fn run_on(lines: u8, cascade: &[u8], pattern: u16) -> Ran
     let mut d = gates::words::spread(pattern);
     let mut i: usize = 0;
     while i < m {
-        let w = gates::words::word_at(cascade, 8 * i);
-        if !gates::words::is_gate(lines, w) {
+        let Record::Gate {
+            operator: _,
+            target: _,
+            controls: _,
+        } = gates::decode(lines, cascade, 8 * i)
+        else {
             return Ran::Refused {
                 number: 7,
                 place: i,
             };
-        }
-        d = gates::words::moved(w, d);
+        };
+        d = gates::words::moved(gates::words::word_at(cascade, 8 * i), d);
         i = i + 1;
     }
     Ran::Pattern(gates::words::gather(d))
@@ -157,9 +164,9 @@ pub fn invert(lines: u8, cascade: &[u8], room: &mut [u8]) -> Counted
     }
 }
 
-// The sum of the gates' prices, with refusals 6 and 7 on the way: one pass.
-fn price_on(lines: u8, value: u8, cascade: &[u8]) -> Priced
-    requires { ⌜ (linesOk lines ≡ true) × (value ≤ 2) ⌝ }
+// The sum of the gates' prices by the row of base prices, with refusals 6 and 7 on the way: one pass.
+fn price_by(lines: u8, value: u8, cascade: &[u8], row: &[u32]) -> Priced
+    requires { ⌜ (linesOk lines ≡ true) × (value ≤ 2) × (now row ≡ span base 0 7) ⌝ }
     ensures { λ r. ⌜ pricedAs r ≡ sound lines (now (cascade .entry)) (accepted (cascadePrice value (gatesOf (now (cascade .entry))) ∷ [])) ⌝ }
 {
     if !lengths::length_ok(cascade.len()) {
@@ -172,17 +179,31 @@ fn price_on(lines: u8, value: u8, cascade: &[u8]) -> Priced
     let mut cost: u32 = 0;
     let mut i: usize = 0;
     while i < m {
-        let w = gates::words::word_at(cascade, 8 * i);
-        if !gates::words::is_gate(lines, w) {
+        let Record::Gate {
+            operator: _,
+            target: _,
+            controls: _,
+        } = gates::decode(lines, cascade, 8 * i)
+        else {
             return Priced::Refused {
                 number: 7,
                 place: i,
             };
-        }
-        cost = cost + prices::price_word(value, w);
+        };
+        cost = cost + prices::price_word(value, gates::words::word_at(cascade, 8 * i), row);
         i = i + 1;
     }
     Priced::Cost(cost)
+}
+
+// The same, with a row of its own.
+fn price_on(lines: u8, value: u8, cascade: &[u8]) -> Priced
+    requires { ⌜ (linesOk lines ≡ true) × (value ≤ 2) ⌝ }
+    ensures { λ r. ⌜ pricedAs r ≡ sound lines (now (cascade .entry)) (accepted (cascadePrice value (gatesOf (now (cascade .entry))) ∷ [])) ⌝ }
+{
+    let mut row = [0u32; 7];
+    prices::write_bases(&mut row);
+    price_by(lines, value, cascade, &row)
 }
 
 // What the cascade costs at a global control value: refusals 1, 10, 6, 7.

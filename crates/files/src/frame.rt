@@ -53,10 +53,35 @@ pub fn frame_ok(file: &[u8]) -> bool
 pub fn gates_between(lines: u8, records: &[u8], at: usize, end: usize) -> Extent
     ensures { λ r. ⌜ openingAs r ≡ onLines lines (sound lines (now (records .entry)) (accepted (lines ∷ at ∷ end ∷ []))) ⌝ }
 {
-    match cascades::check_cascade(lines, records) {
-        Counted::Refused { number, place } => Extent::Refused { number, place },
-        Counted::Gates(_) => Extent::Frame { lines, at, end },
+    if !card::lines_ok(lines) {
+        return Extent::Refused {
+            number: 1,
+            place: 0,
+        };
     }
+    if !cascades::lengths::length_ok(records.len()) {
+        return Extent::Refused {
+            number: 6,
+            place: 0,
+        };
+    }
+    let count = records.len() / 8;
+    let mut i: usize = 0;
+    while i < count {
+        let Record::Gate {
+            operator: _,
+            target: _,
+            controls: _,
+        } = gates::decode(lines, records, 8 * i)
+        else {
+            return Extent::Refused {
+                number: 7,
+                place: i,
+            };
+        };
+        i = i + 1;
+    }
+    Extent::Frame { lines, at, end }
 }
 
 // The 8 bytes from a place on end at an offset or before it. The sum is not made: it might wrap around.

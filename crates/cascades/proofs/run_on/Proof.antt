@@ -1,7 +1,7 @@
 -- `cascades::run_on` meets its contract: running what is left on the pattern now, whose digits the loop keeps, is running all on the pattern given.
 -- Assumes nothing.
 use mathlib.Core.Path.{_≡_, sym, ap, _∙_}
-use mathlib.Core.Bool.{Bool, true}
+use mathlib.Core.Bool.{true}
 use mathlib.Core.List.{List, [], _∷_}
 use Prim.Native.Nat.{ℕ, _-_, _*_, _^_, _≤_, _<_}
 use native.Mathlib.Nat.{sub-zero, pow-le-pow-right, lt-of-lt-of-le}
@@ -11,10 +11,11 @@ use native.Mathlib.Omega.{arith}
 use Rattle.ranges.specs.Ranges.{span}
 use Rattle.card.specs.Card.{Answer.accepted}
 use Rattle.card.proofs.Cards.{lines-are}
-use Rattle.gates.specs.Records.{isRecord}
 use Rattle.gates.specs.Gates.{applied}
+use Rattle.gates.specs.Records.{isRecord}
 use Rattle.gates.specs.Words.{isWord, gateOf as word-gate-of, Spread}
 use Rattle.gates.proofs.Gates.{applied-lt}
+use Rattle.gates.proofs.Records.{gives, gives-no}
 use Rattle.gates.proofs.Bytes.{word-is, word-gate, word-low, word-on, gate-on}
 use Rattle.gates.proofs.Marks.{spread-held, spread-back, moved-spread}
 use Rattle.cascades.specs.Cascades.{ran, gatesOf}
@@ -42,14 +43,14 @@ module _ (c : tie.Else1 Inv-loop μ-loop) where
   whole : lengthOk (length (c .before .before .before .args .cascade .now)) ≡ true
   whole = sym (c .before .length-ok .ensures) ∙ not-false _ (c .if1 .left)
 
--- the record at the loop's place, as the number that was read
-module _ (c : tie.After-is-gate Inv-loop μ-loop) where
-  read-as : (t : Bool) → c .is-gate .result ≡ t → isRecord (c .before .before .before .before .before .before .before .before .args .lines) (c .before .before .before .before .before .before .before .before .args .cascade .now) (8 * c .before .before .before .loop .i) ≡ t
-  read-as t e = word-is _ _ _ (c .before .word-at .ensures) _ (omega (arith, c .before .before .loop-test .taken)) ∙ sym (c .is-gate .ensures) ∙ e
+-- the record at the loop's place is a gate, and so is the number that it reads as
+module _ (c : tie.After-enum-told Inv-loop μ-loop) where
+  gate : isRecord (c .before .before .before .before .before .before .before .before .before .args .lines) (c .before .before .before .before .before .before .before .before .before .args .cascade .now) (8 * c .before .before .before .before .loop .i) ≡ true
+  gate = gives _ _ _ _ _ _ (sym (c .before .before .decode .ensures) ∙ c .enum-told .given .1) .is
 
-module _ (c : tie.Else2 Inv-loop μ-loop) where
-  is : isWord (c .before .before .before .before .before .before .before .before .before .args .lines) (c .before .before .word-at .result) ≡ true
-  is = sym (c .before .is-gate .ensures) ∙ not-false _ (c .if2 .left)
+module _ (c : tie.After-word-at Inv-loop μ-loop) where
+  is : isWord (c .before .before .before .before .before .before .before .before .before .before .args .lines) (c .word-at .result) ≡ true
+  is = sym (word-is _ _ _ (c .word-at .ensures) _ (omega (arith, c .before .before .before .before .loop-test .taken))) ∙ gate (c .before)
 
 length-ok-requires : tie.Need-length-ok-requires Inv-loop μ-loop
 length-ok-requires c κs = search needs
@@ -63,24 +64,34 @@ spread-requires c κs = search needs
 loop-holds : tie.Need-loop-holds Inv-loop μ-loop
 loop-holds c = record { p = _; passing = passing-start _ _ _; spread = c .spread .ensures; below = c .before .before .before .before .pre .1; value = rw sub-zero }
 
+mul-decode : tie.Need-mul-decode Inv-loop μ-loop
+mul-decode c = search needs
+
+decode-requires : tie.Need-decode-requires Inv-loop μ-loop
+decode-requires c κs = search needs
+
+enum-told : tie.Need-enum-told Inv-loop μ-loop
+enum-told c = search needs
+
+enum-told-2 : tie.Need-enum-told-2 Inv-loop μ-loop
+enum-told-2 c = search needs
+
+returns-2 : tie.Need-returns-2 Inv-loop μ-loop
+returns-2 c =
+    let d = c .before .before in
+    let e = d .before .before .before .before in
+    sym (sound-bad _ _ _ _ (whole e) (d .before .loop-test .taken)
+    (gives-no _ _ _ _ _ (e .before .before .before .pre .0) (sym (d .decode .ensures) ∙ c .enum-told2 .given .1)) (d .before .before .loop .inv .passing))
+
 mul-word-at : tie.Need-mul-word-at Inv-loop μ-loop
 mul-word-at c = search needs
 
 word-at-requires : tie.Need-word-at-requires Inv-loop μ-loop
 word-at-requires c κs = omega arith
 
-is-gate-requires : tie.Need-is-gate-requires Inv-loop μ-loop
-is-gate-requires c κs = lines-are _ (c .before .before .before .before .before .before .before .pre .0) .1
-
-returns-2 : tie.Need-returns-2 Inv-loop μ-loop
-returns-2 c =
-    let d = c .before .before in
-    let e = d .before .before .before .before in
-    sym (sound-bad _ _ _ _ (whole e) (d .before .loop-test .taken) (read-as (c .before) _ (not-true _ (c .if2 .taken))) (d .before .before .loop .inv .passing))
-
 moved-requires : tie.Need-moved-requires Inv-loop μ-loop
 moved-requires c κs =
-    let d = c .before .before in
+    let d = c .before .before .before in
     let six = lines-are _ (d .before .before .before .before .before .before .before .pre .0) .1 in
     (word-low _ _ (is c), lt-of-lt-of-le (word-on _ _ (is c)) six, spread-held _ _ (d .before .before .loop .inv .spread))
 
@@ -93,16 +104,16 @@ loop-less c = search needs
 loop-again : tie.Need-loop-again Inv-loop μ-loop
 loop-again c =
     let b = c .before in
-    let d = b .before .before in
+    let d = b .before .before .before in
     let i = d .before .before .loop .inv in
     let lt = d .before .loop-test .taken in
     let six = lines-are _ (d .before .before .before .before .before .before .before .pre .0) .1 in
     record {
-      p = applied (word-gate-of (d .word-at .result)) (i .p);
-      passing = passing-next _ _ _ _ lt (read-as (b .before) _ (not-false _ (b .if2 .left))) (i .passing);
+      p = applied (word-gate-of (b .word-at .result)) (i .p);
+      passing = passing-next _ _ _ _ lt (gate (b .before)) (i .passing);
       spread = rw (c .moved .ensures) (moved-spread _ _ (i .spread) _ (word-low _ _ (is b)) (lt-of-lt-of-le (word-on _ _ (is b)) six));
       below = applied-lt _ _ _ (gate-on _ _ (is b)) (i .below);
-      value = rw (← word-gate _ _ _ (d .word-at .ensures)) (run-more _ _ _ _ lt) ∙ i .value;
+      value = rw (← word-gate _ _ _ (b .word-at .ensures)) (run-more _ _ _ _ lt) ∙ i .value;
     }
 
 gather-requires : tie.Need-gather-requires Inv-loop μ-loop
@@ -127,10 +138,13 @@ run-on-spec =
     returns
     spread-requires
     loop-holds
+    mul-decode
+    decode-requires
+    enum-told
+    enum-told-2
+    returns-2
     mul-word-at
     word-at-requires
-    is-gate-requires
-    returns-2
     moved-requires
     add-i
     loop-less
