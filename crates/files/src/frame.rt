@@ -9,7 +9,7 @@ ghost use Rattle.cascades.specs.Answers.{sound};
 ghost use Rattle.files.specs.Files.{numberAt, frameOk};
 ghost use Rattle.files.specs.Readers.{openingAs, recordStands};
 use crate::Extent;
-use cascades::Counted;
+use gates::Record;
 
 // The number that the k bytes from a place on write down, low byte first.
 pub fn number_at(k: usize, file: &[u8], at: usize) -> usize
