@@ -1,7 +1,8 @@
--- The lent buffer on the way: it holds the gates of a list, through a gate replaced and a gate taken out, and at the end its bytes are theirs.
+-- The lent buffer on the way: it holds the gates of a list, through a gate replaced and the gaps closed, and at the end its bytes are theirs.
 -- A record is looked at byte by byte; that it reads as its gate rests on its being what storing that gate would leave (`standing`). Assumes nothing.
-use mathlib.Core.Path.{_≡_, refl, sym, ap, _∙_}
-use mathlib.Core.Bool.{true}
+use mathlib.Core.Path.{_≡_, refl, sym, ap, _∙_, subst}
+use mathlib.Core.Logic.{⊎-elim}
+use mathlib.Core.Bool.{true, false}
 use mathlib.Core.List.{List, [], _∷_, _++_}
 use Prim.Native.Nat.{ℕ, zero, suc, _+_, _-_, _*_, _/_, _%_, _<_, _≤_}
 use native.Mathlib.Nat.{zero-add}
@@ -9,21 +10,25 @@ use native.Mathlib.Decide.{ℕ-discrete}
 use native.Mathlib.Omega.{arith}
 use lib.ListN.{length, getD, set, take, length-set, List·getD-append}
 use lib.Seq.{sets, length-sets, length-take-le, getD-take, getD-set-same, getD-set-other, getD-append-add, ext-getD}
+use borrow.Author.Tests.{eqb-true, eqb-false}
+use Rattle.ranges.specs.Lists.{Each}
+use Rattle.ranges.proofs.Bools.{decide, clash}
 use Rattle.ranges.proofs.Lists.{each-at, each-imp}
 use Rattle.ranges.proofs.Spans.{length-span, span-at}
 use Rattle.ranges.proofs.Stores.{getD-sets, getD-sets-below, getD-sets-above}
 use Rattle.ranges.proofs.Changes.{each-set, sets-same}
+use Rattle.digits.proofs.Digits.{digit-lt}
 use Rattle.card.proofs.Cards.{lines-are}
 use Rattle.gates.specs.declared.Gate.{Gate}
 use Rattle.gates.specs.Gates.{IsGate}
-use Rattle.gates.specs.Records.{isRecord, gateAt, recordOf}
-use Rattle.gates.proofs.Records.{reads, byte-lt, length-record, gate-written, record-written, encode-decode}
+use Rattle.gates.specs.Records.{gateAt, recordOf}
+use Rattle.gates.proofs.Records.{length-record, gate-written, encode-decode}
 use Rattle.cascades.specs.Cascades.{records, gatesOf, bytesOf, Whole}
 use Rattle.cascades.proofs.Cascades.{gates-good, gates-count}
 use Rattle.cascades.proofs.Stored.{length-bytes}
-use Rattle.tidying.specs.Tidying.{gate, without}
-use Rattle.tidying.specs.Buffers.{gatesIn, Holds, stood, Closed}
-use Rattle.tidying.proofs.Removals.{length-without, each-without, stood-before, stood-behind, by-place, gate-without}
+use Rattle.tidying.specs.Tidying.{gate}
+use Rattle.tidying.specs.Buffers.{gatesIn, gap, isGap, Stands, kept, rank, Holds, Moved, Kept}
+use Rattle.tidying.proofs.Gaps.{by-place, kept-each, rank-start, rank-all, rank-place, rank-next-gap, rank-next, gate-kept, gate-real}
 
 pub length-gates : (b : List ℕ) (m : ℕ) → length (gatesIn b m) ≡ m
 unfolding gatesIn
@@ -35,22 +40,31 @@ gate-in b m q lt = span-at (λ i. gateAt b (8 * i)) 0 m q _ lt ∙ ap (λ (x : �
 
 -- ---- reading
 
+-- the control bytes of a record are digits in base 4
+record-line : (g : Gate) (k : ℕ) → k < 6 → getD (recordOf g) (2 + k) 0 < 4
+unfolding recordOf
+record-line g zero lt = digit-lt 4 0 (g .controls) (omega arith)
+record-line g (suc zero) lt = digit-lt 4 1 (g .controls) (omega arith)
+record-line g (suc (suc zero)) lt = digit-lt 4 2 (g .controls) (omega arith)
+record-line g (suc (suc (suc zero))) lt = digit-lt 4 3 (g .controls) (omega arith)
+record-line g (suc (suc (suc (suc zero)))) lt = digit-lt 4 4 (g .controls) (omega arith)
+record-line g (suc (suc (suc (suc (suc zero))))) lt = digit-lt 4 5 (g .controls) (omega arith)
+record-line g (suc (suc (suc (suc (suc (suc k)))))) lt = absurd (omega arith)
+
 module _ (b : List ℕ) (gs : List Gate) (w : Holds b gs) (q : ℕ) (lt : q < length gs) where
   pub holds-fits : 8 * q + 8 ≤ length b
   holds-fits = omega (arith, w .room)
 
-  pub holds-gate : IsGate 6 (gate gs q)
-  holds-gate = each-at (IsGate 6) gs _ (w .gates) q lt
+  pub holds-gate : Stands (gate gs q)
+  holds-gate = each-at Stands gs _ (w .gates) q lt
 
   standing : sets b (8 * q) (recordOf (gate gs q)) ≡ b
   standing = sets-same (recordOf (gate gs q)) b (8 * q) 0 (λ k l. w .bytes q k lt (rw (length-record (gate gs q)) at l))
 
-  -- its control bytes are digits in base 4
   pub holds-lines : (k : ℕ) → k < 6 → getD b (8 * q + 2 + k) 0 < 4
   holds-lines k l =
-      let is : isRecord 6 b (8 * q) ≡ true =
-      ap (λ (s : List ℕ). isRecord 6 s (8 * q)) (sym standing) ∙ record-written (gate gs q) b (8 * q) holds-fits 6 holds-gate in
-      byte-lt 6 (getD b (8 * q + 1) 0) b (8 * q) (reads 6 b (8 * q) is .lines) k l
+      let e : 8 * q + 2 + k ≡ 8 * q + (2 + k) = omega arith in
+      rw (e, w .bytes q (2 + k) lt (omega arith)) (record-line (gate gs q) k l)
 
   pub holds-reads : gateAt b (8 * q) ≡ gate gs q
   holds-reads = ap (λ (s : List ℕ). gateAt s (8 * q)) (sym standing) ∙ gate-written (gate gs q) b (8 * q) holds-fits (holds-gate .packed)
@@ -60,6 +74,10 @@ pub holds-list : (b : List ℕ) (gs : List Gate) (m : ℕ) → Holds b gs → le
 holds-list b gs m w e =
     ext-getD _ (gatesIn b m) gs (length-gates b m ∙ sym e)
     (λ q lt. let l : q < m = rw (length-gates b m) at lt in gate-in b m q l ∙ holds-reads b gs w q (rw e l))
+
+-- and what is said of these may be said of those
+pub holds-as : (P : List Gate → Type 0) (b : List ℕ) (gs : List Gate) (m : ℕ) → Holds b gs → length gs ≡ m → P gs → P (gatesIn b m)
+holds-as P b gs m w e x = subst P (sym (holds-list b gs m w e)) x
 
 -- ---- at the start
 
@@ -75,6 +93,23 @@ wider n six g ok =
       packed = ok .packed;
     }
 
+pub stands-gate : (g : Gate) → IsGate 6 g → Stands g
+stands-gate g ok =
+    record {
+      op-high = ok .op-high;
+      on-line = omega (arith, ok .on-line);
+      packed = ok .packed;
+      real = λ e. ok;
+      blank = λ e. clash (isGap g) e (gate-real g ok);
+    }
+
+pub stands-gap : Stands gap
+unfolding isGap
+stands-gap = record { op-high = omega arith; on-line = omega arith; packed = omega arith; real = λ e. clash true refl e; blank = λ e. refl }
+
+pub gates-start : (n : ℕ) (b : List ℕ) (m : ℕ) → Whole n b m → Each (IsGate 6) (gatesOf b)
+gates-start n b m w = each-imp (IsGate n) (IsGate 6) (wider n (lines-are n (w .lines) .1)) (gatesOf b) (gates-good n b m w)
+
 pub holds-start : (n : ℕ) (b : List ℕ) (m : ℕ) → Whole n b m → Holds b (gatesOf b)
 unfolding gatesOf
 holds-start n b m w =
@@ -82,7 +117,7 @@ holds-start n b m w =
     let long : length (gatesOf b) ≡ m = gates-count b ∙ count in
     record {
       room = omega (arith, w .size);
-      gates = each-imp (IsGate n) (IsGate 6) (wider n (lines-are n (w .lines) .1)) (gatesOf b) (gates-good n b m w);
+      gates = each-imp (IsGate 6) Stands stands-gate (gatesOf b) (gates-start n b m w);
       bytes = λ q k lq lk.
           let l : q < m = omega arith in
           let g : gate (gatesOf b) q ≡ gateAt b (8 * q) =
@@ -94,12 +129,12 @@ holds-start n b m w =
 
 -- ---- one gate replaced
 
-pub holds-set : (b : List ℕ) (gs : List Gate) (p : ℕ) (g : Gate) → Holds b gs → p < length gs → IsGate 6 g
+pub holds-set : (b : List ℕ) (gs : List Gate) (p : ℕ) (g : Gate) → Holds b gs → p < length gs → Stands g
     → Holds (sets b (8 * p) (recordOf g)) (set gs p g)
 holds-set b gs p g w lt ok =
     record {
       room = rw (length-set gs p g, length-sets b (8 * p) (recordOf g)) (w .room);
-      gates = each-set (IsGate 6) gs p g (w .gates) ok;
+      gates = each-set Stands gs p g (w .gates) ok;
       bytes = λ q k lq lk. byte q k (rw (length-set gs p g) at lq) lk (ℕ-discrete q p);
     }
   where
@@ -116,59 +151,107 @@ holds-set b gs p g w lt ok =
         (λ l. getD-sets-above (recordOf g) b (8 * p) (8 * q + k) 0 (omega (arith, eight)))
         ∙ w .bytes q k lq lk)
 
--- ---- one gate taken out
+-- ---- the gaps closed
 
-pub holds-without : (s t : List ℕ) (gs : List Gate) (p m : ℕ) → length gs ≡ m → p < m → Holds s gs → Closed s t p m → Holds t (without gs p)
-holds-without s t gs p m count lt w c =
-    let long = length-without gs p (omega arith) in
-    record {
-      room = omega (arith, w .room, c .len);
-      gates = each-without (IsGate 6) gs p (w .gates);
-      bytes = λ q k lq lk.
-          c .moved q k (omega arith) lk
-          ∙ w .bytes (stood p q) k (inside q (omega arith)) lk
-          ∙ ap (λ (x : Gate). getD (recordOf x) k 0) (sym (gate-without gs p q));
-    }
-  where
-    inside : (q : ℕ) → q + 1 < length gs → stood p q < length gs
-    inside q l = by-place (stood p q < length gs) p q (λ b. rw (stood-before p q b) (omega arith)) (λ b. rw (stood-behind p q b) l)
-
--- the loop that moves the bytes behind record p down, up to x
-pub record Moving (s t : List ℕ) (p x : ℕ) : Type 0 where
+-- the loop that brings record p to place q, up to byte k
+pub record Moving (s t : List ℕ) (p q k : ℕ) : Type 0 where
   pub len : length t ≡ length s
-  pub from : 8 * p ≤ x
-  pub below : (y : ℕ) → y < 8 * p → getD t y 0 ≡ getD s y 0
-  pub moved : (y : ℕ) → 8 * p ≤ y → y < x → getD t y 0 ≡ getD s (y + 8) 0
-  pub rest : (y : ℕ) → x ≤ y → getD t y 0 ≡ getD s y 0
+  pub within : k ≤ 8
+  pub here : (l : ℕ) → l < k → getD t (8 * q + l) 0 ≡ getD s (8 * p + l) 0
+  pub below : (y : ℕ) → y < 8 * q → getD t y 0 ≡ getD s y 0
+  pub above : (y : ℕ) → 8 * q + k ≤ y → getD t y 0 ≡ getD s y 0
 
-pub moving-start : (s : List ℕ) (p : ℕ) → Moving s s p (8 * p)
-moving-start s p = record { len = refl; from = omega arith; below = λ y l. refl; moved = λ y a b. absurd (omega arith); rest = λ y l. refl }
+pub moving-start : (s : List ℕ) (p q : ℕ) → Moving s s p q 0
+moving-start s p q = record { len = refl; within = omega arith; here = λ l a. absurd (omega arith); below = λ y l. refl; above = λ y l. refl }
 
-pub moving-next : (s t : List ℕ) (p x : ℕ) → x < length s → Moving s t p x → Moving s (set t x (getD t (x + 8) 0)) p (x + 1)
-moving-next s t p x lt w =
+pub moving-next : (s t : List ℕ) (p q k : ℕ) → q ≤ p → 8 * p + 8 ≤ length s → k < 8 → Moving s t p q k
+    → Moving s (set t (8 * q + k) (getD t (8 * p + k) 0)) p q (k + 1)
+moving-next s t p q k le room lt w =
     record {
-      len = length-set t x _ ∙ w .len;
-      from = omega (arith, w .from);
-      below = λ y l. getD-set-other t x y _ 0 (omega (arith, w .from)) ∙ w .below y l;
-      moved = λ y a b. here y a b (ℕ-discrete y x);
-      rest = λ y l. getD-set-other t x y _ 0 (omega arith) ∙ w .rest y (omega arith);
+      len = length-set t (8 * q + k) _ ∙ w .len;
+      within = omega arith;
+      here = λ l a. byte l a (ℕ-discrete l k);
+      below = λ y l. getD-set-other t (8 * q + k) y _ 0 (omega arith) ∙ w .below y l;
+      above = λ y l. getD-set-other t (8 * q + k) y _ 0 (omega arith) ∙ w .above y (omega arith);
     }
   where
-    here : (y : ℕ) → 8 * p ≤ y → y < x + 1 → Dec (y ≡ x) → getD (set t x (getD t (x + 8) 0)) y 0 ≡ getD s (y + 8) 0
-    here y a b (yes e) = rw (e, getD-set-same t x (getD t (x + 8) 0) 0 (omega (arith, w .len))) (w .rest (x + 8) (omega arith))
-    here y a b (no ne) = getD-set-other t x y _ 0 ne ∙ w .moved y a (omega arith)
+    byte : (l : ℕ) → l < k + 1 → Dec (l ≡ k) → getD (set t (8 * q + k) (getD t (8 * p + k) 0)) (8 * q + l) 0 ≡ getD s (8 * p + l) 0
+    byte l a (yes e) = rw (e, getD-set-same t (8 * q + k) (getD t (8 * p + k) 0) 0 (omega (arith, w .len))) (w .above (8 * p + k) (omega arith))
+    byte l a (no ne) = getD-set-other t (8 * q + k) (8 * q + l) _ 0 (omega arith) ∙ w .here l (omega arith)
 
-pub moving-end : (s t : List ℕ) (p m x : ℕ) → 8 * (m - 1) ≤ x → Moving s t p x → Closed s t p m
-moving-end s t p m x le w =
-    record {
-      len = w .len;
-      moved = λ q k l lk.
-          by-place (getD t (8 * q + k) 0 ≡ getD s (8 * stood p q + k) 0) p q
-          (λ b. rw (stood-before p q b) (w .below (8 * q + k) (omega arith)))
-          (λ b.
-          let e : 8 * q + k + 8 ≡ 8 * (q + 1) + k = omega arith in
-          rw (stood-behind p q b, ← e) (w .moved (8 * q + k) (omega arith) (omega arith)));
-    }
+pub moving-end : (s t : List ℕ) (p q k : ℕ) → 8 ≤ k → Moving s t p q k → Moved s t p q
+moving-end s t p q k le w =
+    record { len = w .len; here = λ l a. w .here l (omega arith); below = w .below; above = λ y l. w .above y (omega (arith, w .within)) }
+
+-- the gates before place p stand one behind the other from the start on, q of them, and the records from p on are as they were
+pub record Closing (gs : List Gate) (s t : List ℕ) (p q : ℕ) : Type 0 where
+  pub len : length t ≡ length s
+  pub inside : p ≤ length gs
+  pub count : q ≡ rank gs p
+  pub front : (x k : ℕ) → x < q → k < 8 → getD t (8 * x + k) 0 ≡ getD (recordOf (gate (kept gs) x)) k 0
+  pub rest : (y : ℕ) → 8 * p ≤ y → getD t y 0 ≡ getD s y 0
+
+pub closing-start : (gs : List Gate) (s : List ℕ) → Closing gs s s 0 0
+closing-start gs s =
+    record { len = refl; inside = omega arith; count = sym (rank-start gs); front = λ x k a b. absurd (omega arith); rest = λ y l. refl }
+
+module _ (gs : List Gate) (s t : List ℕ) (p q : ℕ) (h : Holds s gs) (lt : p < length gs) (w : Closing gs s t p q) where
+  pub closing-order : q ≤ p
+  closing-order = omega (arith, w .count, rank-place gs p)
+
+  pub closing-room : 8 * p + 8 ≤ length t
+  closing-room = omega (arith, w .len, h .room)
+
+  -- record p, still as it was
+  byte-now : (k : ℕ) → k < 8 → getD t (8 * p + k) 0 ≡ getD (recordOf (gate gs p)) k 0
+  byte-now k l = w .rest (8 * p + k) (omega arith) ∙ h .bytes p k lt l
+
+  operator-now : getD t (8 * p) 0 ≡ gate gs p .operator
+  unfolding recordOf
+  operator-now = let e : 8 * p + 0 ≡ 8 * p = omega arith in rw e at (byte-now 0 (omega arith))
+
+  pub closing-next : (u : List ℕ) (r : ℕ) → Kept t u p q r → Closing gs s u (p + 1) r
+  unfolding isGap
+  closing-next u r v = ⊎-elim at-gap at-gate (decide (isGap (gate gs p)))
+    where
+      at-gap : isGap (gate gs p) ≡ true → Closing gs s u (p + 1) r
+      at-gap e =
+          let still = v .gone (operator-now ∙ eqb-true (gate gs p .operator) 0 e) in
+          record {
+            len = ap length (still .0) ∙ w .len;
+            inside = omega arith;
+            count = still .1 ∙ w .count ∙ sym (rank-next-gap gs p lt e);
+            front = λ x k a b. ap (λ (l : List ℕ). getD l (8 * x + k) 0) (still .0) ∙ w .front x k (omega (arith, still .1)) b;
+            rest = λ y l. ap (λ (x : List ℕ). getD x y 0) (still .0) ∙ w .rest y (omega arith);
+          }
+
+      byte : Moved t u p q → isGap (gate gs p) ≡ false → (x k : ℕ) → x < q + 1 → k < 8 → Dec (x ≡ q) → getD u (8 * x + k) 0 ≡ getD (recordOf (gate (kept gs) x)) k 0
+      byte m e x k a b (yes c) =
+          rw (c, w .count, gate-kept gs p lt e)
+          (rw (w .count) at (m .here k b) ∙ byte-now k b)
+      byte m e x k a b (no ne) = m .below (8 * x + k) (omega arith) ∙ w .front x k (omega arith) b
+
+      at-gate : isGap (gate gs p) ≡ false → Closing gs s u (p + 1) r
+      at-gate e =
+          let moved = v .stays (λ z. eqb-false (gate gs p .operator) 0 e (sym operator-now ∙ z)) in
+          record {
+            len = moved .0 .len ∙ w .len;
+            inside = omega arith;
+            count = moved .1 ∙ ap (λ (x : ℕ). x + 1) (w .count) ∙ sym (rank-next gs p lt e);
+            front = λ x k a b. byte (moved .0) e x k (omega (arith, moved .1)) b (ℕ-discrete x q);
+            rest = λ y l. moved .0 .above y (omega (arith, closing-order)) ∙ w .rest y (omega arith);
+          }
+
+pub closing-end : (gs : List Gate) (s t : List ℕ) (p q : ℕ) → Holds s gs → length gs ≤ p → Closing gs s t p q → Holds t (kept gs) × (q ≡ length (kept gs))
+closing-end gs s t p q h le w =
+    let count : q ≡ length (kept gs) = w .count ∙ rank-all gs p le in (
+      record {
+        room = omega (arith, w .len, h .room, rank-place gs p, w .inside, w .count);
+        gates = kept-each Stands gs (h .gates);
+        bytes = λ x k a b. w .front x k (omega arith) b;
+      },
+      count,
+    )
 
 -- ---- at the end
 

@@ -4,7 +4,8 @@ pub mod Weights
 pub mod Steps
 pub mod Endings
 pub mod Promises
-pub mod Removals
+pub mod Gaps
 pub mod Buffers
 pub mod Rows
+pub mod Firsts
 pub mod Repetitions

@@ -1,24 +1,30 @@
 -- The loop of steps over the buffer: after k steps it holds what k steps of the definition leave, and where no pair is left that is the tidied list.
 -- Assumes nothing.
-use mathlib.Core.Path.{_≡_, refl, sym, ap, _∙_, subst}
+use mathlib.Core.Path.{_≡_, sym, ap, _∙_, subst}
 use mathlib.Core.Logic.{⊎-elim}
 use mathlib.Core.Bool.{true, false}
 use mathlib.Core.List.{List, [], _∷_, _++_}
 use Prim.Native.Nat.{ℕ, _+_, _-_, _*_, _<_, _≤_}
 use native.Mathlib.Omega.{arith}
-use lib.ListN.{length, take, replicate}
+use lib.ListN.{length, take, drop, replicate}
 use borrow.Author.Tests.{lt-ltb, le-ltb}
-use Rattle.ranges.specs.Lists.{total}
+use Rattle.ranges.specs.Ranges.{span}
+use Rattle.ranges.specs.Lists.{Each, total}
 use Rattle.ranges.proofs.Counts.{here-or-later}
+use Rattle.ranges.proofs.Lists.{each-imp}
 use Rattle.gates.specs.declared.Gate.{Gate}
+use Rattle.gates.specs.Gates.{IsGate}
 use Rattle.cascades.specs.Cascades.{records, gatesOf, bytesOf}
 use Rattle.tidying.specs.Tidying.{firstJ, firstI, ruled, untidy, step, Tidied, size, tidied}
-use Rattle.tidying.specs.Buffers.{gatesIn, Holds, TidiedIn}
-use Rattle.tidying.specs.Rows.{Known, FirstAt}
+use Rattle.tidying.specs.Buffers.{gatesIn, isGap, kept, rank, Holds, TidiedIn}
+use Rattle.tidying.specs.Rows.{Known, Low, PairAt}
 use Rattle.tidying.proofs.Weights.{control-count-le}
-use Rattle.tidying.proofs.Steps.{FirstPair, first-pair, stepped-size, stepped-count, step-stepped}
+use Rattle.tidying.proofs.Steps.{stepped-size, step-stepped}
 use Rattle.tidying.proofs.Endings.{afterSteps, after-none, after-one-more, one-answer, tidied-procedure}
-use Rattle.tidying.proofs.Buffers.{holds-list, holds-bytes}
+use Rattle.tidying.proofs.Gaps.{kept-all, rank-lt, rank-all, gate-real}
+use Rattle.tidying.proofs.Buffers.{length-gates, holds-list, holds-bytes}
+use Rattle.tidying.proofs.Rows.{known-start}
+use Rattle.tidying.proofs.Firsts.{First, first-at}
 
 -- a list of m gates has at most 7 m gates and controls
 pub size-le : (gs : List Gate) → size gs ≤ 7 * length gs
@@ -28,7 +34,7 @@ size-le (g ∷ gs) = omega (arith, size-le gs, control-count-le g)
 
 -- ---- what the search answers
 
-module _ (gs : List Gate) (i j : ℕ) (f : FirstAt gs i j) where
+module _ (gs : List Gate) (i j : ℕ) (f : First gs i j) where
   pub pair-none : length gs ≤ i → untidy gs ≡ false
   unfolding untidy
   pair-none le = le-ltb (firstI gs) (length gs) (omega (arith, f .row))
@@ -38,84 +44,94 @@ module _ (gs : List Gate) (i j : ℕ) (f : FirstAt gs i j) where
     unfolding untidy
     pair-some = lt-ltb (firstI gs) (length gs) (omega (arith, f .row))
 
-    pub pair-first : FirstPair gs i j
-    pair-first =
-        subst (FirstPair gs i) (sym (f .column lt)) (subst (λ (x : ℕ). FirstPair gs x (firstJ gs x)) (sym (f .row)) (first-pair gs pair-some))
-
     pub pair-step : ruled gs i j ≡ step gs
     unfolding step
     pair-step = ap (ruled gs i) (f .column lt) ∙ ap (λ (x : ℕ). ruled gs x (firstJ gs x)) (f .row)
 
 -- ---- the loop
 
--- after k steps on the gates gs the buffer b holds m of them, and far is true of these
-pub record Going (gs : List Gate) (b far : List ℕ) (m k : ℕ) : Type 0 where
-  pub count : length (afterSteps k gs) ≡ m
-  pub fewer : m ≤ length gs
-  pub holds : Holds b (afterSteps k gs)
-  pub known : Known (afterSteps k gs) far
+-- after k steps on the gates gs the buffer b holds them with gaps at m places, far is true of these, and no row before x has a pair
+pub record Going (gs : List Gate) (b far : List ℕ) (m x k : ℕ) : Type 0 where
+  pub holds : Holds b (gatesIn b m)
+  pub list : kept (gatesIn b m) ≡ afterSteps k gs
+  pub known : Known (gatesIn b m) far
+  pub within : x ≤ m
+  pub low : Low far x
   pub used : (q : ℕ) → q < k → untidy (afterSteps q gs) ≡ true
   pub spent : k + size (afterSteps k gs) ≤ size gs
 
-pub going-start : (gs : List Gate) (b far : List ℕ) (m : ℕ) → length gs ≡ m → Holds b gs → Known gs far → Going gs b far m 0
-going-start gs b far m e h k =
+pub going-start : (gs : List Gate) (b far : List ℕ) (m : ℕ) → length gs ≡ m → Each (IsGate 6) gs → Holds b gs → m ≤ 8000 → m + 16 ≤ length far
+    → Going gs b (span (λ r. r + 1) 0 m ++ drop m far) m 0 0
+going-start gs b far m e ok h most room =
+    let same : gatesIn b m ≡ gs = holds-list b gs m h e in
+    let real : Each (λ g. isGap g ≡ false) gs = each-imp (IsGate 6) (λ g. isGap g ≡ false) gate-real gs ok in
     record {
-      count = rw (after-none gs) e;
-      fewer = omega arith;
-      holds = rw (after-none gs) h;
-      known = rw (after-none gs) k;
+      holds = rw same h;
+      list = ap kept same ∙ kept-all gs real ∙ sym (after-none gs);
+      known = rw same (known-start gs m far e most room real);
+      within = omega arith;
+      low = λ r l. absurd (omega arith);
       used = λ q lt. absurd (omega arith);
       spent = rw (after-none gs) (omega arith);
     }
 
-module _ (gs : List Gate) (b far : List ℕ) (m k : ℕ) (w : Going gs b far m k) where
-  -- the gates that the buffer starts with
-  pub going-gates : gatesIn b m ≡ afterSteps k gs
-  going-gates = holds-list b (afterSteps k gs) m (w .holds) (w .count)
+module _ (gs : List Gate) (b far : List ℕ) (m x k : ℕ) (w : Going gs b far m x k) where
+  -- a pair that the search found is the first of the gates
+  module _ (far′ : List ℕ) (i j : ℕ) (known : Known (gatesIn b m) far′) (low : Low far′ i) (f : PairAt (gatesIn b m) i j) where
+    first : First (afterSteps k gs) (rank (gatesIn b m) i) (rank (gatesIn b m) j)
+    first =
+        subst (λ (l : List Gate). First l (rank (gatesIn b m) i) (rank (gatesIn b m) j)) (w .list)
+        (first-at (gatesIn b m) (w .holds .gates) far′ i j known low f)
 
-  module _ (i j : ℕ) (f : FirstAt (afterSteps k gs) i j) where
-    pub going-next : i < m → (b′ far′ : List ℕ) (r : ℕ) → Holds b′ (ruled (afterSteps k gs) i j) → r ≡ length (ruled (afterSteps k gs) i j)
-        → Known (ruled (afterSteps k gs) i j) far′ → Going gs b′ far′ r (k + 1)
-    going-next lt b′ far′ r h e known =
+    pub going-next : i < m → (b′ far″ : List ℕ) (y : ℕ) → Holds b′ (gatesIn b′ m)
+        → kept (gatesIn b′ m) ≡ ruled (kept (gatesIn b m)) (rank (gatesIn b m) i) (rank (gatesIn b m) j)
+        → Known (gatesIn b′ m) far″ → y ≤ m → Low far″ y → Going gs b′ far″ m y (k + 1)
+    going-next lt b′ far″ y h e known′ within low′ =
         record {
-          count = rw more (sym e);
-          fewer = omega (arith, e, w .fewer, w .count, ap length (pair-step (afterSteps k gs) i j f inside), stepped-count (step-stepped (afterSteps k gs) some));
-          holds = rw more h;
-          known = rw more known;
+          holds = h;
+          list = e ∙ ap (λ (l : List Gate). ruled l (rank (gatesIn b m) i) (rank (gatesIn b m) j)) (w .list) ∙ sym more;
+          known = known′;
+          within = within;
+          low = low′;
           used = λ q l. ⊎-elim (λ (p : q ≡ k). rw p some) (λ (p : q < k). w .used q p) (here-or-later (omega arith));
-          spent =
-              omega
-              (arith, w .spent, ap size more, ap size (pair-step (afterSteps k gs) i j f inside), stepped-size (step-stepped (afterSteps k gs) some));
+          spent = omega (arith, w .spent, ap size (after-one-more k gs), stepped-size (step-stepped (afterSteps k gs) some));
         }
       where
-        inside : i < length (afterSteps k gs)
-        inside = rw (w .count) lt
+        place : i < length (gatesIn b m)
+        place = rw (length-gates b m) lt
+
+        inside : rank (gatesIn b m) i < length (afterSteps k gs)
+        inside = rw (← w .list) (rank-lt (gatesIn b m) i place (f .gate-i place))
 
         some : untidy (afterSteps k gs) ≡ true
-        some = pair-some (afterSteps k gs) i j f inside
+        some = pair-some (afterSteps k gs) (rank (gatesIn b m) i) (rank (gatesIn b m) j) first inside
 
-        more : afterSteps (k + 1) gs ≡ ruled (afterSteps k gs) i j
-        more = after-one-more k gs ∙ sym (pair-step (afterSteps k gs) i j f inside)
+        more : afterSteps (k + 1) gs ≡ ruled (afterSteps k gs) (rank (gatesIn b m) i) (rank (gatesIn b m) j)
+        more = after-one-more k gs ∙ sym (pair-step (afterSteps k gs) (rank (gatesIn b m) i) (rank (gatesIn b m) j) first inside)
 
-    pub going-end : m ≤ i → record { left = afterSteps k gs; steps = k } ≡ tidied gs
+    pub going-end : m ≤ i → record { left = kept (gatesIn b m); steps = k } ≡ tidied gs
     going-end le =
-        one-answer gs (record { left = afterSteps k gs; steps = k }) (tidied gs)
+        one-answer gs (record { left = kept (gatesIn b m); steps = k }) (tidied gs)
         (record {
-          left-is = refl;
+          left-is = w .list;
           used = w .used;
-          ended = pair-none (afterSteps k gs) i j f (omega (arith, w .count));
+          ended = rw (w .list) (pair-none (afterSteps k gs) (rank (gatesIn b m) i) (rank (gatesIn b m) j) first end);
           few = omega (arith, w .spent);
         })
         (tidied-procedure gs)
+      where
+        end : length (afterSteps k gs) ≤ rank (gatesIn b m) i
+        end = rw (← w .list) (omega (arith, rank-all (gatesIn b m) i (rw (length-gates b m) le)))
 
--- the buffer afterwards, its freed records cleared
-pub going-done : (s b far t : List ℕ) (m left k i j : ℕ) → length s ≡ 8 * m → length b ≡ length s → (w : Going (gatesOf s) b far left k)
-    → FirstAt (afterSteps k (gatesOf s)) i j → left ≤ i → t ≡ take (8 * left) b ++ replicate (length b - 8 * left) 0 → TidiedIn s t left k
-going-done s b far t m left k i j size len w f le e =
-    let done : record { left = afterSteps k (gatesOf s); steps = k } ≡ tidied (gatesOf s) = going-end (gatesOf s) b far left k w i j f le in
-    let list : afterSteps k (gatesOf s) ≡ tidied (gatesOf s) .left = ap (λ (r : Tidied). r .left) done in
-    let count : left ≡ length (tidied (gatesOf s) .left) = sym (w .count) ∙ ap length list in
-    let bytes : take (8 * left) b ≡ bytesOf (tidied (gatesOf s) .left) =
-    ap (λ (x : ℕ). take (8 * x) b) (sym (w .count)) ∙ holds-bytes b (afterSteps k (gatesOf s)) (w .holds) ∙ ap bytesOf list in
-    let freed : length b - 8 * left ≡ 8 * (records s - length (tidied (gatesOf s) .left)) = omega arith in
+-- the buffer afterwards, its gaps closed and its freed records cleared
+pub going-done : (s b far far′ c t : List ℕ) (m x left k i j : ℕ) → length s ≡ 8 * m → length c ≡ length s → Going (gatesOf s) b far m x k
+    → Known (gatesIn b m) far′ → Low far′ i → PairAt (gatesIn b m) i j → m ≤ i → Holds c (kept (gatesIn b m)) → left ≡ length (kept (gatesIn b m))
+    → t ≡ take (8 * left) c ++ replicate (length c - 8 * left) 0 → TidiedIn s t left k
+going-done s b far far′ c t m x left k i j size len w known low f le h all e =
+    let done : record { left = kept (gatesIn b m); steps = k } ≡ tidied (gatesOf s) = going-end (gatesOf s) b far m x k w far′ i j known low f le in
+    let list : kept (gatesIn b m) ≡ tidied (gatesOf s) .left = ap (λ (r : Tidied). r .left) done in
+    let count : left ≡ length (tidied (gatesOf s) .left) = all ∙ ap length list in
+    let bytes : take (8 * left) c ≡ bytesOf (tidied (gatesOf s) .left) =
+    ap (λ (y : ℕ). take (8 * y) c) all ∙ holds-bytes c (kept (gatesIn b m)) h ∙ ap bytesOf list in
+    let freed : length c - 8 * left ≡ 8 * (records s - length (tidied (gatesOf s) .left)) = omega arith in
     record { count = count; uses = ap (λ (r : Tidied). r .steps) done; bytes = e ∙ rw (bytes, freed) }

@@ -1,34 +1,32 @@
--- What the search remembers of each row stays true: where a row is found clear further on, where a gate is replaced, and where a gate is taken out;
--- and what a row that is clear up to j says of the first pair. Assumes nothing.
-use mathlib.Core.Path.{_≡_, refl, sym, ap, ap₂, _∙_, subst}
+-- What the search remembers of each row stays true: where a row is found clear further on, and where a gate is replaced, sixteen rows at a time; and what
+-- a row that is clear up to j says of the first pair. Assumes nothing.
+use mathlib.Core.Path.{_≡_, refl, sym, ap, _∙_, subst}
 use mathlib.Core.Logic.{⊎-elim}
-use mathlib.Core.Bool.{Bool, true, false, _&&_}
+use mathlib.Core.Bool.{Bool, true, false, cond, _&&_}
 use mathlib.Core.List.{List, _++_}
-use Prim.Native.Nat.{ℕ, _+_, _-_, _<_, _≤_}
-use native.Mathlib.Nat.{sub-zero}
+use Prim.Native.Nat.{ℕ, _+_, _-_, _%_, _<_, _≤_}
 use native.Mathlib.Decide.{ℕ-discrete}
 use native.Mathlib.Omega.{arith}
 use lib.Dec.{ltb}
 use lib.ListN.{length, getD, set, drop, length-set, length-append, length-drop}
 use lib.Seq.{getD-set-same, getD-set-other}
-use borrow.Author.Tests.{ltb-true, lt-ltb, le-ltb}
-use Rattle.ranges.specs.Ranges.{first, span}
+use borrow.Author.Tests.{ltb-true, lt-ltb}
+use Rattle.ranges.specs.Ranges.{span}
+use Rattle.ranges.specs.Lists.{Each}
 use Rattle.ranges.proofs.Bools.{and-both, decide, clash}
 use Rattle.ranges.proofs.Counts.{here-or-later}
 use Rattle.ranges.proofs.Tests.{every-at, every-make}
-use Rattle.ranges.proofs.Searches.{found, found-unique, first-more, first-hit, first-ends}
+use Rattle.ranges.proofs.Searches.{found, found-unique}
+use Rattle.ranges.proofs.Lists.{each-at}
 use Rattle.ranges.proofs.Spans.{length-span}
 use Rattle.ranges.proofs.Changes.{at-set, filled-at}
 use Rattle.gates.specs.declared.Gate.{Gate}
 use Rattle.tidying.specs.Places.{mayChange}
 use Rattle.tidying.specs.Rules.{fits}
-use Rattle.tidying.specs.Tidying.{gate, isOpen, fitting, firstJ, firstI, without}
-use Rattle.tidying.specs.Buffers.{stood}
-use Rattle.tidying.specs.Rows.{Quiet, Clear, Known, lowered, FirstAt}
-use Rattle.tidying.proofs.Removals.{length-without, stood-before, stood-behind, by-place, gate-without}
-
-quiet-as : {g g′ h h′ : Gate} → g ≡ g′ → h ≡ h′ → Quiet g′ h′ → Quiet g h
-quiet-as e d q = record { unfit = ap₂ fits e d ∙ q .unfit; pass = ap₂ mayChange e d ∙ q .pass }
+use Rattle.tidying.specs.Tidying.{gate, isOpen, fitting, firstJ}
+use Rattle.tidying.specs.Buffers.{isGap}
+use Rattle.tidying.specs.Rows.{Quiet, Clear, Stops, Row, Known, Low, Again}
+use Rattle.tidying.proofs.Gaps.{by-place}
 
 -- ---- one row
 
@@ -67,141 +65,190 @@ clear-set gs p g r c lt ne w again =
     here l a b (yes e) = rw (e, getD-set-same gs p g _ lt, getD-set-other gs p r g _ ne) (again (omega arith) (omega arith))
     here l a b (no n) = rw (getD-set-other gs p l g _ n, getD-set-other gs p r g _ ne) (w .quiet l a b)
 
-module _ (gs : List Gate) (p : ℕ) (g : Gate) (r c : ℕ) (lt : p < length gs) (before : r < p) (w : Clear gs r c) where
-  other : r ≡ p → ⊥
-  other e = omega arith
-
-  -- it does not reach p; it does, and the pair is quiet; it does, and the pair is not
-  pub again-near : c ≤ p → Clear (set gs p g) r c
-  again-near le = clear-set gs p g r c lt other w (λ a b. absurd (omega arith))
-
-  pub again-quiet : fits (gate gs r) g ≡ false → mayChange (gate gs r) g ≡ true → Clear (set gs p g) r c
-  again-quiet unfit may = clear-set gs p g r c lt other w (λ a b. record { unfit = unfit; pass = may })
-
-  pub again-cut : p < c → Clear (set gs p g) r p
-  again-cut l = clear-set gs p g r p lt other (clear-less gs r c p w before (omega arith)) (λ a b. absurd (omega arith))
-
--- the rows before x are looked at again
-pub record Settling (gs : List Gate) (p : ℕ) (g : Gate) (s t : List ℕ) (x : ℕ) : Type 0 where
-  pub len : length t ≡ length s
-  pub low : x ≤ p
-  pub done : (r : ℕ) → r < x → Clear (set gs p g) r (getD t r 0)
-  pub rest : (r : ℕ) → x ≤ r → getD t r 0 ≡ getD s r 0
-
-pub settling-start : (gs : List Gate) (p : ℕ) (g : Gate) (s : List ℕ) → Settling gs p g s s 0
-settling-start gs p g s = record { len = refl; low = omega arith; done = λ r l. absurd (omega arith); rest = λ r l. refl }
-
-pub settling-row : (gs : List Gate) (p : ℕ) (g : Gate) (s t : List ℕ) (x : ℕ) → Known gs s → p < length gs → x < p → Settling gs p g s t x
-    → Clear gs x (getD t x 0)
-settling-row gs p g s t x k lp lx w = subst (Clear gs x) (sym (w .rest x (omega arith))) (k .rows x (omega arith))
-
-pub settling-next : (gs : List Gate) (p : ℕ) (g : Gate) (s t : List ℕ) (x c : ℕ) → x < p → p < length s → Settling gs p g s t x → Clear (set gs p g) x c
-    → Settling gs p g s (set t x c) (x + 1)
-settling-next gs p g s t x c lx lp w k =
+-- it stops at another gate than p
+stops-set : (gs : List Gate) (p : ℕ) (g : Gate) (r c : ℕ) → (r ≡ p → ⊥) → (c ≡ p → ⊥) → Stops gs r c → Stops (set gs p g) r c
+stops-set gs p g r c ne nc w =
     record {
-      len = length-set t x c ∙ w .len;
-      low = omega arith;
-      done = λ r l. at-set (Clear (set gs p g)) t x c 0 (omega (arith, w .len)) k r (λ ne. w .done r (omega arith));
-      rest = λ r l. getD-set-other t x r c 0 (omega arith) ∙ w .rest r (omega arith);
+      unfit = λ l. rw (getD-set-other gs p c g _ nc, getD-set-other gs p r g _ ne) (w .unfit (rw (length-set gs p g) at l));
+      shut = λ l. rw (getD-set-other gs p c g _ nc, getD-set-other gs p r g _ ne) (w .shut (rw (length-set gs p g) at l));
     }
 
-pub settling-end : (gs : List Gate) (p : ℕ) (g : Gate) (s t : List ℕ) (x : ℕ) → Known gs s → p < length gs → p ≤ x → Settling gs p g s t x
-    → Known (set gs p g) (set t p (p + 1))
-settling-end gs p g s t x k lp le w =
+module _ (gs : List Gate) (p : ℕ) (g : Gate) (r n : ℕ) (lt : p < length gs) (ne : r ≡ p → ⊥) (w : Row gs r n) where
+  was : (x : Bool) → isGap (gate (set gs p g) r) ≡ x → isGap (gate gs r) ≡ x
+  was x e = rw (getD-set-other gs p r g _ ne) at e
+
+  -- its number stays, where it does not reach gate p or is quiet with the new one
+  row-stays : (isGap (gate gs r) ≡ false → n % 16384 ≡ p → ⊥) → (isGap (gate gs r) ≡ false → r < p → p < n % 16384 → Quiet (gate gs r) g) → Row (set gs p g) r n
+  row-stays off again =
+      record {
+        clear = λ e. clear-set gs p g r (n % 16384) lt ne (w .clear (was false e)) (again (was false e));
+        stops = λ e l. stops-set gs p g r (n % 16384) ne (off (was false e)) (w .stops (was false e) l);
+        gone = λ e. w .gone (was true e);
+      }
+
+  module _ (before : r < p) (small : p < 16384) where
+    -- it does not reach p; it does, and the pair is quiet; it does, and is clear up to p then
+    pub again-near : n % 16384 < p → Row (set gs p g) r n
+    again-near l = row-stays (λ e q. omega arith) (λ e a b. absurd (omega arith))
+
+    pub again-quiet : p < n % 16384 → fits (gate gs r) g ≡ false → mayChange (gate gs r) g ≡ true → Row (set gs p g) r n
+    again-quiet l unfit may = row-stays (λ e q. omega arith) (λ e a b. record { unfit = unfit; pass = may })
+
+    pub again-cut : p ≤ n % 16384 → Row (set gs p g) r p
+    again-cut l =
+        let same : p % 16384 ≡ p = omega arith in
+        record {
+          clear = λ e.
+              rw same
+              (clear-set gs p g r p lt ne (clear-less gs r (n % 16384) p (w .clear (was false e)) before l) (λ a b. absurd (omega arith)));
+          stops = λ e q. absurd (omega arith);
+          gone = λ e. absurd (omega (arith, w .gone (was true e)));
+        }
+
+-- the row behind gate p keeps its number
+row-behind : (gs : List Gate) (p : ℕ) (g : Gate) (r n : ℕ) → p < length gs → p < r → Row gs r n → Row (set gs p g) r n
+row-behind gs p g r n lt l w =
+    row-stays gs p g r n lt (λ e. omega arith) w (λ e q. omega (arith, w .clear e .order)) (λ e a b. absurd (omega arith))
+
+-- the row of gate p starts anew
+row-own : (gs : List Gate) (p : ℕ) (g : Gate) → p < length gs → p < 8000 → Row (set gs p g) p (cond (isGap g) 16384 (p + 1))
+row-own gs p g lt small =
     record {
-      room = rw (length-set gs p g, length-set t p (p + 1), w .len) (k .room);
+      clear = λ e. rw (at e, first) (clear-start (set gs p g) p (rw (length-set gs p g) lt));
+      stops = λ e l. absurd (few (at e) l);
+      gone = λ e. rw (here true e);
+    }
+  where
+    here : (x : Bool) → isGap (gate (set gs p g) p) ≡ x → isGap g ≡ x
+    here x e = rw (getD-set-same gs p g (record { operator = 0; target = 0; controls = 0 }) lt) at e
+
+    at : isGap (gate (set gs p g) p) ≡ false → isGap g ≡ false
+    at = here false
+
+    first : (p + 1) % 16384 ≡ p + 1
+    first = omega arith
+
+    few : isGap g ≡ false → 16384 ≤ cond (isGap g) 16384 (p + 1) → ⊥
+    few e l = let m : 16384 ≤ p + 1 = rw e at l in omega arith
+
+-- ---- rows looked at again
+
+pub again-start : (gs : List Gate) (p : ℕ) (g : Gate) (s : List ℕ) (x : ℕ) → Again gs p g s s x x
+again-start gs p g s x = record { len = refl; inside = λ r a b. absurd (omega arith); below = λ r l. refl; above = λ r l. refl }
+
+pub again-next : (gs : List Gate) (p : ℕ) (g : Gate) (s t : List ℕ) (x e n : ℕ) → x ≤ e → e < length s → Again gs p g s t x e → Row (set gs p g) e n
+    → Again gs p g s (set t e n) x (e + 1)
+again-next gs p g s t x e n le lt w k =
+    record {
+      len = length-set t e n ∙ w .len;
+      inside = λ r a b. at-set (Row (set gs p g)) t e n 0 (omega (arith, w .len)) k r (λ ne. w .inside r a (omega arith));
+      below = λ r l. getD-set-other t e r n 0 (omega arith) ∙ w .below r l;
+      above = λ r l. getD-set-other t e r n 0 (omega arith) ∙ w .above r (omega arith);
+    }
+
+pub again-more : (gs : List Gate) (p : ℕ) (g : Gate) (s t u : List ℕ) (x e f : ℕ) → x ≤ e → e ≤ f → Again gs p g s t x e → Again gs p g t u e f → Again gs p g s u x f
+again-more gs p g s t u x e f lx le w v =
+    record {
+      len = v .len ∙ w .len;
+      inside = λ r a b.
+          by-place (Row (set gs p g) r (getD u r 0)) e r (λ l. subst (Row (set gs p g) r) (sym (v .below r l)) (w .inside r a l)) (λ l. v .inside r l b);
+      below = λ r l. v .below r (omega arith) ∙ w .below r l;
+      above = λ r l. v .above r l ∙ w .above r (omega arith);
+    }
+
+-- no row of a stride reaches gate p
+pub again-none : (gs : List Gate) (p : ℕ) (g : Gate) (s : List ℕ) (x e f : ℕ) → p < length gs → e ≤ p → p < 16384 → e ≤ x + 16 → f < p
+    → ((k : ℕ) → k < 16 → getD s (x + k) 0 % 16384 ≤ f) → ((r : ℕ) → x ≤ r → r < e → Row gs r (getD s r 0)) → Again gs p g s s x e
+again-none gs p g s x e f lp le small near lf most rows =
+    record {
+      len = refl;
+      inside = λ r a b. again-near gs p g r (getD s r 0) lp (λ q. omega arith) (rows r a b) (omega arith) small (omega (arith, reach r a b));
+      below = λ r l. refl;
+      above = λ r l. refl;
+    }
+  where
+    reach : (r : ℕ) → x ≤ r → r < e → getD s r 0 % 16384 ≤ f
+    reach r a b = let q : x + (r - x) ≡ r = omega arith in rw q at (most (r - x) (omega arith))
+
+pub again-end : (gs : List Gate) (p : ℕ) (g : Gate) (s t : List ℕ) (x n : ℕ) → Known gs s → p < length gs → p < 8000 → p ≤ x → x ≤ p → Again gs p g s t 0 x
+    → n ≡ cond (isGap g) 16384 (p + 1) → Known (set gs p g) (set t p n)
+again-end gs p g s t x n k lp small le ge w own =
+    record {
+      room = rw (length-set gs p g, length-set t p n, w .len) (k .room);
       rows = λ r l.
-          at-set (Clear (set gs p g)) t p (p + 1) 0 (omega (arith, w .len, k .room)) (clear-start (set gs p g) p (rw (length-set gs p g) lp)) r
+          at-set (Row (set gs p g)) t p n 0 (omega (arith, w .len, k .room)) (rw own (row-own gs p g lp small)) r
           (λ ne. row r ne (rw (length-set gs p g) at l));
     }
   where
-    row : (r : ℕ) → (r ≡ p → ⊥) → r < length gs → Clear (set gs p g) r (getD t r 0)
+    row : (r : ℕ) → (r ≡ p → ⊥) → r < length gs → Row (set gs p g) r (getD t r 0)
     row r ne l =
-        by-place (Clear (set gs p g) r (getD t r 0)) p r (λ b. w .done r (omega arith))
-        (λ b.
-        subst (Clear (set gs p g) r) (sym (w .rest r (omega (arith, w .low))))
-        (clear-set gs p g r (getD s r 0) lp ne (k .rows r l) (λ a d. absurd (omega arith))))
+        by-place (Row (set gs p g) r (getD t r 0)) p r (λ b. w .inside r (omega arith) (omega arith))
+        (λ b. subst (Row (set gs p g) r) (sym (w .above r (omega arith))) (row-behind gs p g r (getD s r 0) lp (omega arith) (k .rows r l)))
 
--- ---- gate p goes
+-- ---- no row before x has a pair
 
-pub lowered-past : (p c : ℕ) → p < c → lowered p c ≡ c - 1
-unfolding lowered
-lowered-past p c lt = rw (lt-ltb p c lt)
-
-pub lowered-near : (p c : ℕ) → c ≤ p → lowered p c ≡ c
-unfolding lowered
-lowered-near p c le = rw (le-ltb p c le)
-
-module _ (p : ℕ) where
-  stood-rises : (q r : ℕ) → q < r → stood p q < stood p r
-  stood-rises q r lt =
-      by-place (stood p q < stood p r) p r
-      (λ b. rw (stood-before p r b, stood-before p q (omega arith)) lt)
-      (λ b. by-place (stood p q < stood p r) p q (λ a. rw (stood-before p q a, stood-behind p r b) (omega arith)) (λ a. rw (stood-behind p q a, stood-behind p r b) (omega arith)))
-
-  -- a place q lies before the lowered c just where it stood before c
-  to-lowered : (q c : ℕ) → stood p q < c → q < lowered p c
-  to-lowered q c lt =
-      by-place (q < lowered p c) p q
-      (λ a.
-      let l : q < c = rw (stood-before p q a) at lt in
-      by-place (q < lowered p c) (p + 1) c (λ b. rw (lowered-near p c (omega arith)) l) (λ b. rw (lowered-past p c (omega arith)) (omega arith)))
-      (λ a. let l : q + 1 < c = rw (stood-behind p q a) at lt in rw (lowered-past p c (omega arith)) (omega arith))
-
-  from-lowered : (q c : ℕ) → q < lowered p c → stood p q < c
-  from-lowered q c lt =
-      by-place (stood p q < c) (p + 1) c
-      (λ b. let l : q < c = rw (lowered-near p c (omega arith)) at lt in rw (stood-before p q (omega arith)) l)
-      (λ b.
-      let l : q < c - 1 = rw (lowered-past p c (omega arith)) at lt in
-      by-place (stood p q < c) p q (λ a. rw (stood-before p q a) (omega arith)) (λ a. rw (stood-behind p q a) (omega arith)))
-
-  lowered-inside : (c m : ℕ) → p < m → c ≤ m → lowered p c ≤ m - 1
-  lowered-inside c m lt le =
-      by-place (lowered p c ≤ m - 1) (p + 1) c (λ b. rw (lowered-near p c (omega arith)) (omega arith)) (λ b. rw (lowered-past p c (omega arith)) (omega arith))
-
-clear-without : (gs : List Gate) (p r c : ℕ) → p < length gs → Clear gs (stood p r) c → Clear (without gs p) r (lowered p c)
-clear-without gs p r c lt w =
-    let long = length-without gs p lt in
-    record {
-      order = to-lowered p r c (w .order);
-      inside = omega (arith, lowered-inside p c (length gs) lt (w .inside));
-      quiet = λ l a b. quiet-as (gate-without gs p r) (gate-without gs p l) (w .quiet (stood p l) (stood-rises p r l a) (from-lowered p l c b));
-    }
-
--- the numbers after that
-abbrev lowered-rows : ℕ → List ℕ → ℕ → ℕ
-lowered-rows p s r = lowered p (getD s (stood p r) 0)
-
-pub known-without : (gs : List Gate) (p m : ℕ) (s : List ℕ) → length gs ≡ m → p < m → Known gs s
-    → Known (without gs p) (span (lowered-rows p s) 0 (m - 1) ++ drop (m - 1) s)
-known-without gs p m s e lt k =
-    let long = length-without gs p (omega arith) in
-    record {
-      room = omega (arith, k .room, length-append (span (lowered-rows p s) 0 (m - 1)) (drop (m - 1) s), length-span (lowered-rows p s) 0 (m - 1), length-drop (m - 1) s);
-      rows = λ r l.
-          subst (Clear (without gs p) r) (sym (filled-at (lowered-rows p s) s (m - 1) r 0 (omega arith)))
-          (clear-without gs p r (getD s (stood p r) 0) (omega arith) (k .rows (stood p r) (inside r (omega arith))));
-    }
+-- row y, of number n now, is x or more, or has none
+pub low-set : (s : List ℕ) (y n x z : ℕ) → y < length s → Low s x → z ≤ x → (y < z → 16384 ≤ n) → Low (set s y n) z
+low-set s y n x z lt low le here r l = go (ℕ-discrete r y)
   where
-    inside : (r : ℕ) → r + 1 < length gs → stood p r < length gs
-    inside r l = by-place (stood p r < length gs) p r (λ b. rw (stood-before p r b) (omega arith)) (λ b. rw (stood-behind p r b) l)
+    go : Dec (r ≡ y) → 16384 ≤ getD (set s y n) r 0
+    go (yes e) = rw (e, getD-set-same s y n 0 lt) (here (omega arith))
+    go (no ne) = rw (getD-set-other s y r n 0 ne) (low r (omega arith))
+
+-- row x has none
+pub low-next : (s : List ℕ) (x n : ℕ) → x < length s → Low s x → 16384 ≤ n → Low (set s x n) (x + 1)
+low-next s x n lt low le r l = go (ℕ-discrete r x)
+  where
+    go : Dec (r ≡ x) → 16384 ≤ getD (set s x n) r 0
+    go (yes e) = rw (e, getD-set-same s x n 0 lt) le
+    go (no ne) = rw (getD-set-other s x r n 0 ne) (low r (omega arith))
+
+pub low-more : (s : List ℕ) (x q : ℕ) → Low s x → ((k : ℕ) → k < q → 16384 ≤ getD s (x + k) 0) → Low s (x + q)
+low-more s x q low more r l =
+    by-place (16384 ≤ getD s r 0) x r (low r) (λ b. let e : x + (r - x) ≡ r = omega arith in rw e at (more (r - x) (omega arith)))
 
 -- ---- the search
 
-pub known-start : (gs : List Gate) (m : ℕ) (s : List ℕ) → length gs ≡ m → m ≤ length s → Known gs (span (λ r. r + 1) 0 m ++ drop m s)
-known-start gs m s e le =
+pub known-start : (gs : List Gate) (m : ℕ) (s : List ℕ) → length gs ≡ m → m ≤ 8000 → m + 16 ≤ length s → Each (λ g. isGap g ≡ false) gs
+    → Known gs (span (λ r. r + 1) 0 m ++ drop m s)
+known-start gs m s e most le real =
     record {
       room = omega (arith, length-append (span (λ r. r + 1) 0 m) (drop m s), length-span (λ r. r + 1) 0 m, length-drop m s);
-      rows = λ r l. subst (Clear gs r) (sym (filled-at (λ r. r + 1) s m r 0 (omega arith))) (clear-start gs r l);
+      rows = λ r l. subst (Row gs r) (sym (filled-at (λ r. r + 1) s m r 0 (omega arith))) (row r l);
     }
+  where
+    row : (r : ℕ) → r < length gs → Row gs r (r + 1)
+    row r l =
+        let same : (r + 1) % 16384 ≡ r + 1 = omega arith in
+        record {
+          clear = λ q. rw same (clear-start gs r l);
+          stops = λ q a. absurd (omega arith);
+          gone = λ q. clash (isGap (gate gs r)) q (each-at (λ g. isGap g ≡ false) gs _ real r l);
+        }
 
--- row x is clear up to c
-pub known-set : (gs : List Gate) (s : List ℕ) (x c : ℕ) → x < length gs → Known gs s → Clear gs x c → Known gs (set s x c)
-known-set gs s x c lt k w =
+-- a row whose number is below 16384 is that of a gate, and clear up to it
+pub row-real : (gs : List Gate) (r n : ℕ) → Row gs r n → n < 16384 → isGap (gate gs r) ≡ false
+row-real gs r n w lt =
+    ⊎-elim (λ (e : isGap (gate gs r) ≡ true). absurd (omega (arith, w .gone e))) (λ (e : isGap (gate gs r) ≡ false). e) (decide (isGap (gate gs r)))
+
+pub row-clear : (gs : List Gate) (r n : ℕ) → Row gs r n → n < 16384 → Clear gs r n
+row-clear gs r n w lt = let e : n % 16384 ≡ n = omega arith in rw e at (w .clear (row-real gs r n w lt))
+
+-- a row that is clear up to nothing is that of a gap
+pub row-gap : (gs : List Gate) (r n : ℕ) → Row gs r n → n % 16384 ≡ 0 → isGap (gate gs r) ≡ true
+row-gap gs r n w e =
+    ⊎-elim (λ (q : isGap (gate gs r) ≡ true). q) (λ (q : isGap (gate gs r) ≡ false). absurd (omega (arith, w .clear q .order))) (decide (isGap (gate gs r)))
+
+-- row x stops at c
+pub known-stops : (gs : List Gate) (s : List ℕ) (x c : ℕ) → x < length gs → length gs ≤ 8000 → Known gs s → isGap (gate gs x) ≡ false → Clear gs x c → Stops gs x c
+    → Known gs (set s x (c + 16384))
+known-stops gs s x c lt most k real w stop =
+    let same : (c + 16384) % 16384 ≡ c = omega (arith, w .inside) in
     record {
-      room = rw (length-set s x c) (k .room);
-      rows = λ r l. at-set (Clear gs) s x c 0 (omega (arith, k .room)) w r (λ ne. k .rows r l);
+      room = rw (length-set s x (c + 16384)) (k .room);
+      rows = λ r l.
+          at-set (Row gs) s x (c + 16384) 0 (omega (arith, k .room))
+          (record { clear = λ q. rw same w; stops = λ q a. rw same stop; gone = λ q. clash (isGap (gate gs x)) q real }) r (λ ne. k .rows r l);
     }
 
 -- row i has a pair
@@ -265,35 +312,3 @@ module _ (gs : List Gate) (i : ℕ) where
 
     pub row-hits : j < length gs → fits (gate gs i) (gate gs j) ≡ true → row gs i ≡ true
     row-hits lt fit = rw (row-fits lt fit) (lt-ltb j (length gs) lt)
-
--- ---- the loop over the rows: those before i have no pair
-
-pub record Searching (gs : List Gate) (s t : List ℕ) (m i : ℕ) : Type 0 where
-  pub within : i ≤ m
-  pub left : first (row gs) i (m - i) ≡ firstI gs
-  pub known : Known gs t
-  pub len : length t ≡ length s
-
-module _ (gs : List Gate) (s : List ℕ) (m : ℕ) (count : length gs ≡ m) where
-  pub searching-start : Known gs s → Searching gs s s m 0
-  unfolding firstI
-  searching-start k = record { within = omega arith; left = ap (first (row gs) 0) (sub-zero m ∙ sym count); known = k; len = refl }
-
-  pub searching-next : (t : List ℕ) (i c : ℕ) → Searching gs s t m i → i < m → row gs i ≡ false → Clear gs i c → Searching gs s (set t i c) m (i + 1)
-  searching-next t i c w lt none k =
-      record {
-        within = omega arith;
-        left = first-more (row gs) m i lt none ∙ w .left;
-        known = known-set gs t i c (omega arith) (w .known) k;
-        len = length-set t i c ∙ w .len;
-      }
-
-  pub searching-end : (t : List ℕ) (i j : ℕ) → Searching gs s t m i → m ≤ i → FirstAt gs i j
-  searching-end t i j w le = record { row = sym (first-ends (row gs) m i le) ∙ w .left; column = λ l. absurd (omega arith) }
-
-  pub searching-hit : (t : List ℕ) (i j : ℕ) → Searching gs s t m i → i < m → Clear gs i j → j < m → fits (gate gs i) (gate gs j) ≡ true → FirstAt gs i j
-  searching-hit t i j w lt k lj fit =
-      record {
-        row = sym (first-hit (row gs) m i lt (row-hits gs i j k (omega arith) fit)) ∙ w .left;
-        column = λ l. sym (row-fits gs i j k (omega arith) fit);
-      }

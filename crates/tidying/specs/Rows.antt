@@ -1,14 +1,14 @@
 -- What the search remembers of each row: cited by the contracts of inner functions alone.
 use mathlib.Core.Path.{_≡_}
-use mathlib.Core.Bool.{true, false, cond}
+use mathlib.Core.Bool.{Bool, true, false}
 use mathlib.Core.List.{List}
-use Prim.Native.Nat.{ℕ, _-_, _<_, _≤_}
-use lib.Dec.{ltb}
-use lib.ListN.{length, getD}
+use Prim.Native.Nat.{ℕ, _+_, _%_, _<_, _≤_}
+use lib.ListN.{length, getD, set}
 use Rattle.gates.specs.declared.Gate.{Gate}
 use Rattle.tidying.specs.Places.{mayChange}
 use Rattle.tidying.specs.Rules.{fits}
-use Rattle.tidying.specs.Tidying.{gate, firstJ, firstI}
+use Rattle.tidying.specs.Tidying.{gate}
+use Rattle.tidying.specs.Buffers.{isGap}
 
 -- no rule fits g and h, and they may change places
 pub record Quiet (g h : Gate) : Type 0 where
@@ -21,16 +21,37 @@ pub record Clear (gs : List Gate) (r c : ℕ) : Type 0 where
   pub inside : c ≤ length gs
   pub quiet : (l : ℕ) → r < l → l < c → Quiet (gate gs r) (gate gs l)
 
--- the numbers of far say how far each row is clear
+-- c is the end, or a gate that gate r neither fits nor passes
+pub record Stops (gs : List Gate) (r c : ℕ) : Type 0 where
+  pub unfit : c < length gs → fits (gate gs r) (gate gs c) ≡ false
+  pub shut : c < length gs → mayChange (gate gs r) (gate gs c) ≡ false
+
+-- what n says of row r: a gate is clear up to n, and from 16384 on it is clear up to n - 16384 and stops there; a gap has the number 16384
+pub record Row (gs : List Gate) (r n : ℕ) : Type 0 where
+  pub clear : isGap (gate gs r) ≡ false → Clear gs r (n % 16384)
+  pub stops : isGap (gate gs r) ≡ false → 16384 ≤ n → Stops gs r (n % 16384)
+  pub gone : isGap (gate gs r) ≡ true → n ≡ 16384
+
+-- the numbers of far say this of each row; behind them is room to look at sixteen at once
 pub record Known (gs : List Gate) (far : List ℕ) : Type 0 where
-  pub room : length gs ≤ length far
-  pub rows : (r : ℕ) → r < length gs → Clear gs r (getD far r 0)
+  pub room : length gs + 16 ≤ length far
+  pub rows : (r : ℕ) → r < length gs → Row gs r (getD far r 0)
 
--- a place behind gate p, once gate p has gone
-unfoldable pub lowered : ℕ → ℕ → ℕ
-lowered p c = cond (ltb p c) (c - 1) c
+-- no row before x has a pair
+abbrev pub Low : List ℕ → ℕ → Type 0
+Low far x = (r : ℕ) → r < x → 16384 ≤ getD far r 0
 
--- i, j is the first pair; i is the length where there is none
-pub record FirstAt (gs : List Gate) (i j : ℕ) : Type 0 where
-  pub row : i ≡ firstI gs
-  pub column : i < length gs → j ≡ firstJ gs i
+-- t is s after the rows from x to e have been looked at again, gate p having become g
+pub record Again (gs : List Gate) (p : ℕ) (g : Gate) (s t : List ℕ) (x e : ℕ) : Type 0 where
+  pub len : length t ≡ length s
+  pub inside : (r : ℕ) → x ≤ r → r < e → Row (set gs p g) r (getD t r 0)
+  pub below : (r : ℕ) → r < x → getD t r 0 ≡ getD s r 0
+  pub above : (r : ℕ) → e ≤ r → getD t r 0 ≡ getD s r 0
+
+-- i, j is a pair of gates that fits, gate i being clear up to gate j; i is the length where there is none
+pub record PairAt (gs : List Gate) (i j : ℕ) : Type 0 where
+  pub within : i ≤ length gs
+  pub gate-i : i < length gs → isGap (gate gs i) ≡ false
+  pub clear : i < length gs → Clear gs i j
+  pub inside : i < length gs → j < length gs
+  pub fit : i < length gs → fits (gate gs i) (gate gs j) ≡ true

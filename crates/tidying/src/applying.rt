@@ -1,88 +1,69 @@
-// One step on the buffer, with what is remembered kept true: a gate replaced, a gate taken out, and the rule that fits a pair.
+// One step on the buffer, with what is remembered kept true: a gate replaced, and the rule that fits a pair. A gate that goes leaves a gap.
 ghost use mathlib.Core.Path.{_≡_};
-ghost use mathlib.Core.Bool.{true};
-ghost use Prim.Native.Nat.{_*_, _≤_, _<_};
-ghost use lib.ListN.{length, set};
-ghost use Rattle.gates.specs.Gates.{IsGate};
-ghost use Rattle.tidying.specs.Rules.{fits};
-ghost use Rattle.tidying.specs.Tidying.{gate, without, ruled};
-ghost use Rattle.tidying.specs.Buffers.{gatesIn, Holds};
-ghost use Rattle.tidying.specs.Rows.{Known};
+ghost use Prim.Native.Nat.{_≤_, _<_};
+ghost use lib.ListN.{set};
+ghost use Rattle.tidying.specs.Tidying.{ruled};
+ghost use Rattle.tidying.specs.Buffers.{gatesIn, gap, Stands, Holds, kept, rank};
+ghost use Rattle.tidying.specs.Rows.{Known, Low, PairAt};
 use gates::Gate;
 
-// Gate p of m becomes g.
-fn replace(b: &mut [u8], far: &mut [usize], m: usize, p: usize, g: Gate)
+// What stands where a gate has gone.
+fn leave_gap() -> Gate
+    ensures { λ r. ⌜ r ≡ gap ⌝ }
+{
+    Gate {
+        operator: 0,
+        target: 6,
+        controls: 4095,
+    }
+}
+
+// Gate p of m becomes g; answers the lowest row that may have a pair then.
+fn replace(b: &mut [u8], far: &mut [u16], m: usize, p: usize, g: Gate, from: usize) -> usize
     requires { ⌜ Holds (now b) (gatesIn (now b) m) ⌝ }
-    requires { ⌜ (p < m) × IsGate 6 g × Known (gatesIn (now b) m) (now far) ⌝ }
+    requires { ⌜ (from ≤ p) × (p < m) × (m ≤ 8000) × Stands g × Known (gatesIn (now b) m) (now far) × Low (now far) from ⌝ }
     ensures { λ _. ⌜ Holds (now (b .exit)) (set (gatesIn (now (b .entry)) m) p g) ⌝ }
-    ensures { λ _. ⌜ Known (set (gatesIn (now (b .entry)) m) p g) (now (far .exit)) ⌝ }
+    ensures { λ q. ⌜ Known (set (gatesIn (now (b .entry)) m) p g) (now (far .exit)) × (q ≤ from) × Low (now (far .exit)) q ⌝ }
 {
-    super::memory::settle_rows(b, far, m, p, g);
+    let low = super::memory::settle_rows(b, far, m, p, g, from);
     gates::encode(g, b, 8 * p);
-}
-
-// Gate p of m goes.
-fn take_out(b: &mut [u8], far: &mut [usize], m: usize, p: usize)
-    requires { ⌜ Holds (now b) (gatesIn (now b) m) ⌝ }
-    requires { ⌜ (p < m) × (m ≤ 8000) × Known (gatesIn (now b) m) (now far) ⌝ }
-    ensures { λ _. ⌜ Holds (now (b .exit)) (without (gatesIn (now (b .entry)) m) p) ⌝ }
-    ensures { λ _. ⌜ Known (without (gatesIn (now (b .entry)) m) p) (now (far .exit)) ⌝ }
-{
-    super::buffer::close_up(b, p, m);
-    super::memory::close_rows(far, p, m);
-}
-
-// Both gates of a pair go.
-fn take_both(b: &mut [u8], far: &mut [usize], m: usize, i: usize, j: usize)
-    requires { ⌜ Holds (now b) (gatesIn (now b) m) ⌝ }
-    requires { ⌜ (i < j) × (j < m) × (m ≤ 8000) × Known (gatesIn (now b) m) (now far) ⌝ }
-    ensures { λ _. ⌜ Holds (now (b .exit)) (without (without (gatesIn (now (b .entry)) m) j) i) ⌝ }
-    ensures { λ _. ⌜ Known (without (without (gatesIn (now (b .entry)) m) j) i) (now (far .exit)) ⌝ }
-{
-    take_out(b, far, m, j);
-    take_out(b, far, m - 1, i);
-}
-
-// Gate j of a pair becomes h, and gate i goes.
-fn take_one(b: &mut [u8], far: &mut [usize], m: usize, i: usize, j: usize, h: Gate)
-    requires { ⌜ Holds (now b) (gatesIn (now b) m) ⌝ }
-    requires { ⌜ (i < j) × (j < m) × (m ≤ 8000) × IsGate 6 h × Known (gatesIn (now b) m) (now far) ⌝ }
-    ensures { λ _. ⌜ Holds (now (b .exit)) (without (set (gatesIn (now (b .entry)) m) j h) i) ⌝ }
-    ensures { λ _. ⌜ Known (without (set (gatesIn (now (b .entry)) m) j h) i) (now (far .exit)) ⌝ }
-{
-    replace(b, far, m, j, h);
-    take_out(b, far, m, i);
+    low
 }
 
 // The gates of a pair become g and h.
-fn replace_both(b: &mut [u8], far: &mut [usize], m: usize, i: usize, j: usize, g: Gate, h: Gate)
+fn replace_both(
+    b: &mut [u8],
+    far: &mut [u16],
+    m: usize,
+    i: usize,
+    j: usize,
+    g: Gate,
+    h: Gate,
+) -> usize
     requires { ⌜ Holds (now b) (gatesIn (now b) m) ⌝ }
-    requires { ⌜ (i < j) × (j < m) × IsGate 6 g × IsGate 6 h × Known (gatesIn (now b) m) (now far) ⌝ }
-    ensures { λ _. ⌜ Holds (now (b .exit)) (set (set (gatesIn (now (b .entry)) m) i g) j h) ⌝ }
-    ensures { λ _. ⌜ Known (set (set (gatesIn (now (b .entry)) m) i g) j h) (now (far .exit)) ⌝ }
+    requires { ⌜ (i < j) × (j < m) × (m ≤ 8000) × Stands g × Stands h × Known (gatesIn (now b) m) (now far) × Low (now far) i ⌝ }
+    ensures { λ _. ⌜ Holds (now (b .exit)) (set (set (gatesIn (now (b .entry)) m) j h) i g) ⌝ }
+    ensures { λ q. ⌜ Known (set (set (gatesIn (now (b .entry)) m) j h) i g) (now (far .exit)) × (q ≤ i) × Low (now (far .exit)) q ⌝ }
 {
-    replace(b, far, m, i, g);
-    replace(b, far, m, j, h);
+    let low = replace(b, far, m, j, h, i);
+    replace(b, far, m, i, g, low)
 }
 
-// The rule that fits the pair i, j of m gates; answers how many are left.
-pub fn apply_rule(b: &mut [u8], far: &mut [usize], m: usize, i: usize, j: usize) -> usize
+// The rule that fits the first pair i, j of m places; answers the lowest row that may have a pair then.
+pub fn apply_rule(b: &mut [u8], far: &mut [u16], m: usize, i: usize, j: usize) -> usize
     requires { ⌜ Holds (now b) (gatesIn (now b) m) ⌝ }
-    requires { ⌜ (i < j) × (j < m) × (m ≤ 8000) × (fits (gate (gatesIn (now b) m) i) (gate (gatesIn (now b) m) j) ≡ true) × Known (gatesIn (now b) m) (now far) ⌝ }
-    ensures { λ r. ⌜ Holds (now (b .exit)) (ruled (gatesIn (now (b .entry)) m) i j) × (r ≡ length (ruled (gatesIn (now (b .entry)) m) i j)) ⌝ }
-    ensures { λ _. ⌜ Known (ruled (gatesIn (now (b .entry)) m) i j) (now (far .exit)) ⌝ }
+    requires { ⌜ (i < m) × (m ≤ 8000) × PairAt (gatesIn (now b) m) i j × Known (gatesIn (now b) m) (now far) × Low (now far) i ⌝ }
+    ensures { λ _. ⌜ Holds (now (b .exit)) (gatesIn (now (b .exit)) m) × (kept (gatesIn (now (b .exit)) m) ≡ ruled (kept (gatesIn (now (b .entry)) m)) (rank (gatesIn (now (b .entry)) m) i) (rank (gatesIn (now (b .entry)) m) j)) ⌝ }
+    ensures { λ q. ⌜ Known (gatesIn (now (b .exit)) m) (now (far .exit)) × (q ≤ m) × Low (now (far .exit)) q ⌝ }
 {
     let g = super::buffer::read_gate(b, i);
     let h = super::buffer::read_gate(b, j);
     if super::fitting::cancels_pair(g, h) {
-        take_both(b, far, m, i, j);
-        return m - 2;
+        return replace_both(b, far, m, i, j, leave_gap(), leave_gap());
     }
     if super::fitting::merges_pair(g, h) {
-        take_one(b, far, m, i, j, super::fitting::invert(h));
-        return m - 1;
+        return replace_both(b, far, m, i, j, leave_gap(), super::fitting::invert(h));
     }
     let made = super::fitting::reduce_pair(g, h);
-    replace_both(b, far, m, i, j, made.first, made.second);
-    m
+    replace_both(b, far, m, i, j, made.first, made.second)
 }

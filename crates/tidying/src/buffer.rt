@@ -1,10 +1,10 @@
-// The lent buffer: one gate read, one record taken out, and freed records cleared.
+// The lent buffer: one gate read, the gaps closed, and freed records cleared.
 ghost use mathlib.Core.Path.{_≡_};
 ghost use mathlib.Core.List.{_++_};
 ghost use Prim.Native.Nat.{ℕ, _+_, _-_, _*_, _≤_, _<_};
 ghost use lib.ListN.{length, getD, take, replicate};
 ghost use Rattle.gates.specs.Records.{gateAt};
-ghost use Rattle.tidying.specs.Buffers.{Closed};
+ghost use Rattle.tidying.specs.Buffers.{gatesIn, Holds, kept, Moved, Kept};
 use gates::Gate;
 
 // A control in front of those of the lines above.
@@ -33,17 +33,42 @@ pub fn read_gate(b: &[u8], i: usize) -> Gate
     }
 }
 
-// Record p of m goes: those behind it move one place down.
-pub fn close_up(b: &mut [u8], p: usize, m: usize)
-    requires { ⌜ (p < m) × (8 * m ≤ length (now b)) ⌝ }
-    ensures { λ _. ⌜ Closed (now (b .entry)) (now (b .exit)) p m ⌝ }
+// Record p comes to stand at place q, which lies before it or is its own.
+fn move_record(b: &mut [u8], p: usize, q: usize)
+    requires { ⌜ (q ≤ p) × (8 * p + 8 ≤ length (now b)) ⌝ }
+    ensures { λ _. ⌜ Moved (now (b .entry)) (now (b .exit)) p q ⌝ }
 {
-    let end = 8 * (m - 1);
-    let mut x = 8 * p;
-    while x < end {
-        b[x] = b[x + 8];
-        x = x + 1;
+    let mut k: usize = 0;
+    while k < 8 {
+        b[8 * q + k] = b[8 * p + k];
+        k = k + 1;
     }
+}
+
+// Record p comes to stand at place q where it is no gap; answers the place for the next.
+fn keep_record(b: &mut [u8], p: usize, q: usize) -> usize
+    requires { ⌜ (q ≤ p) × (8 * p + 8 ≤ length (now b)) ⌝ }
+    ensures { λ r. ⌜ Kept (now (b .entry)) (now (b .exit)) p q r ⌝ }
+{
+    if b[8 * p] == 0 {
+        return q;
+    }
+    move_record(b, p, q);
+    q + 1
+}
+
+// The gates of m places close up; answers how many they are.
+pub fn close_gaps(b: &mut [u8], m: usize) -> usize
+    requires { ⌜ Holds (now b) (gatesIn (now b) m) ⌝ }
+    ensures { λ r. ⌜ Holds (now (b .exit)) (kept (gatesIn (now (b .entry)) m)) × (r ≡ length (kept (gatesIn (now (b .entry)) m))) ⌝ }
+{
+    let mut q: usize = 0;
+    let mut p: usize = 0;
+    while p < m {
+        q = keep_record(b, p, q);
+        p = p + 1;
+    }
+    q
 }
 
 // Zero bytes from a place to the end.

@@ -23,7 +23,7 @@ fn weight(k: usize) -> u16
 
 // The control on line k.
 pub fn control_on(controls: u16, k: usize) -> u16
-    requires { ⌜ k < 6 ⌝ }
+    requires { ⌜ k < 7 ⌝ }
     ensures { λ r. ⌜ r ≡ digit 4 k controls ⌝ }
 {
     (controls >> (2 * k)) % 4

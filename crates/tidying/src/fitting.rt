@@ -1,6 +1,6 @@
 // The rules on two gates: which fits, and what control reduction makes of each.
 ghost use mathlib.Core.Path.{_≡_};
-ghost use mathlib.Core.Bool.{true};
+ghost use mathlib.Core.Bool.{true, false};
 ghost use Prim.Native.Nat.{_^_, _<_};
 ghost use Rattle.gates.specs.Gates.{inverse};
 ghost use Rattle.tidying.specs.Rules.{sameLines, cancels, merges, reduces, fits, loosened, retuned};
@@ -45,8 +45,21 @@ pub fn merges_pair(g: Gate, h: Gate) -> bool
     g.operator == h.operator
 }
 
+// One target, and operators that a rule takes: few pairs of gates get past this, and only these are compared line by line.
+fn may_fit(g: Gate, h: Gate) -> bool
+    ensures { λ r. ⌜ (r ≡ false → fits g h ≡ false) ⌝ }
+{
+    if g.target != h.target {
+        return false;
+    }
+    if g.operator == h.operator {
+        return true;
+    }
+    h.operator == gates::invert_op(g.operator)
+}
+
 // A rule fits: the lines are compared once for all three.
-pub fn fits_pair(g: Gate, h: Gate) -> bool
+fn fits_closely(g: Gate, h: Gate) -> bool
     ensures { λ r. ⌜ r ≡ fits g h ⌝ }
 {
     if !same_lines(g, h) {
@@ -66,6 +79,16 @@ pub fn fits_pair(g: Gate, h: Gate) -> bool
         return false;
     }
     g.operator == h.operator
+}
+
+// A rule fits.
+pub fn fits_pair(g: Gate, h: Gate) -> bool
+    ensures { λ r. ⌜ r ≡ fits g h ⌝ }
+{
+    if may_fit(g, h) {
+        return fits_closely(g, h);
+    }
+    false
 }
 
 // The gate with the inverse operator.

@@ -1,84 +1,214 @@
-// What the search remembers: far[r] says how far row r is known to be clear. A changed gate is looked at again, a gate that goes moves the rest down.
+// What the search remembers: far[r] says how far row r is known to be clear, with 16384 added where it is known to have no pair; that alone stands
+// where a gate has gone. A changed gate is looked at again by the rows that reach it, found sixteen at a time.
 ghost use mathlib.Core.Path.{_≡_};
+ghost use mathlib.Core.Bool.{cond};
 ghost use mathlib.Core.List.{_++_};
-ghost use Prim.Native.Nat.{_+_, _-_, _≤_, _<_};
+ghost use Prim.Native.Nat.{ℕ, _+_, _%_, _≤_, _<_};
 ghost use lib.ListN.{length, getD, set, drop};
 ghost use Rattle.ranges.specs.Ranges.{span};
-ghost use Rattle.tidying.specs.Buffers.{gatesIn, Holds, stood};
-ghost use Rattle.tidying.specs.Rows.{Clear, Known, lowered};
+ghost use Rattle.tidying.specs.Buffers.{gatesIn, isGap, Stands, Holds};
+ghost use Rattle.tidying.specs.Rows.{Row, Known, Low, Again};
 use gates::Gate;
 
 // Each of m rows is clear up to the gate behind its own.
-pub fn start_rows(far: &mut [usize], m: usize)
-    requires { ⌜ m ≤ length (now far) ⌝ }
+pub fn start_rows(far: &mut [u16], m: usize)
+    requires { ⌜ (m ≤ 8000) × (m ≤ length (now far)) ⌝ }
     ensures { λ _. ⌜ now (far .exit) ≡ span (λ r. r + 1) 0 m ++ drop m (now (far .entry)) ⌝ }
 {
     let mut r: usize = 0;
     while r < m {
-        far[r] = r + 1;
+        far[r] = (r + 1) as u16;
         r = r + 1;
     }
 }
 
-// How far row r, clear up to c, is clear once gate p behind it has become g: what lies before p stays, and the pair r, p is looked at again.
-fn look_again(b: &[u8], m: usize, p: usize, g: Gate, r: usize, c: usize) -> usize
-    requires { ⌜ Holds (now b) (gatesIn (now b) m) ⌝ }
-    requires { ⌜ (r < p) × (p < m) × (g .target < 6) × Clear (gatesIn (now b) m) r c ⌝ }
-    ensures { λ d. ⌜ Clear (set (gatesIn (now (b .entry)) m) p g) r d ⌝ }
+// The larger of two numbers.
+fn larger(x: u16, y: u16) -> u16
+    ensures { λ r. ⌜ (x ≤ r) × (y ≤ r) ⌝ }
 {
-    if c <= p {
-        return c;
+    if x < y { y } else { x }
+}
+
+// The smaller of two numbers.
+fn smaller(x: u16, y: u16) -> u16
+    ensures { λ r. ⌜ (r ≤ x) × (r ≤ y) ⌝ }
+{
+    if x < y { x } else { y }
+}
+
+// No row of the sixteen from s on is clear further than this.
+pub fn furthest(far: &[u16], s: usize) -> u16
+    requires { ⌜ s + 16 ≤ length (now far) ⌝ }
+    ensures { λ r. ⌜ ((k : ℕ) → k < 16 → getD (now (far .entry)) (s + k) 0 % 16384 ≤ r) ⌝ }
+{
+    let mut most: u16 = 0;
+    let mut k: usize = 0;
+    while k < 16 {
+        most = larger(most, far[s + k] % 16384);
+        k = k + 1;
+    }
+    most
+}
+
+// No row of the sixteen from s on has a smaller number.
+fn smallest(far: &[u16], s: usize) -> u16
+    requires { ⌜ s + 16 ≤ length (now far) ⌝ }
+    ensures { λ r. ⌜ ((k : ℕ) → k < 16 → r ≤ getD (now (far .entry)) (s + k) 0) ⌝ }
+{
+    let mut least: u16 = 65535;
+    let mut k: usize = 0;
+    while k < 16 {
+        least = smaller(least, far[s + k]);
+        k = k + 1;
+    }
+    least
+}
+
+// How many rows from row r on have surely no pair, row r being one of them: sixteen or one.
+fn settled_run(far: &[u16], m: usize, r: usize) -> usize
+    requires { ⌜ (r < m) × (m + 16 ≤ length (now far)) × (16384 ≤ getD (now far) r 0) ⌝ }
+    ensures { λ q. ⌜ (0 < q) × (r + q ≤ m) × ((k : ℕ) → k < q → 16384 ≤ getD (now (far .entry)) (r + k) 0) ⌝ }
+{
+    if m < r + 16 {
+        return 1;
+    }
+    if smallest(far, r) < 16384 {
+        return 1;
+    }
+    16
+}
+
+// The first row from i on that may have a pair; m where there is none.
+pub fn next_row(far: &[u16], m: usize, i: usize) -> usize
+    requires { ⌜ (i ≤ m) × (m + 16 ≤ length (now far)) × Low (now far) i ⌝ }
+    ensures { λ r. ⌜ (i ≤ r) × (r ≤ m) × Low (now (far .entry)) r × (r < m → getD (now (far .entry)) r 0 < 16384) ⌝ }
+{
+    let mut r = i;
+    while r < m {
+        if far[r] < 16384 {
+            return r;
+        }
+        r = r + settled_run(far, m, r);
+    }
+    r
+}
+
+// The number of row r, which was n, once gate p behind it has become g: what lies before p stays, and the pair r, p is looked at again.
+fn look_again(b: &[u8], m: usize, p: usize, g: Gate, r: usize, n: u16) -> u16
+    requires { ⌜ Holds (now b) (gatesIn (now b) m) ⌝ }
+    requires { ⌜ (r < p) × (p < m) × (m ≤ 8000) × Stands g × Row (gatesIn (now b) m) r n ⌝ }
+    ensures { λ d. ⌜ Row (set (gatesIn (now (b .entry)) m) p g) r d ⌝ }
+{
+    let c = (n % 16384) as usize;
+    if c < p {
+        return n;
+    }
+    if c == p {
+        return p as u16;
     }
     let h = super::buffer::read_gate(b, r);
     if super::fitting::fits_pair(h, g) {
-        return p;
+        return p as u16;
     }
     if super::passing::may_change(h, g) {
-        return c;
+        return n;
     }
-    p
+    p as u16
 }
 
-// Gate p is to become g: the rows before it are looked at again, and its own starts anew.
-pub fn settle_rows(b: &[u8], far: &mut [usize], m: usize, p: usize, g: Gate)
+// The lowest row that may have a pair, which was low, where row r has the number n now.
+fn lower_row(low: usize, r: usize, n: u16) -> usize
+    ensures { λ q. ⌜ (q ≤ low) × (r < q → 16384 ≤ n) ⌝ }
+{
+    if low <= r {
+        return low;
+    }
+    if n < 16384 { r } else { low }
+}
+
+// The rows from x to e look again at gate p, which is to become g; answers the lowest row that may have a pair then.
+fn look_from(
+    b: &[u8],
+    far: &mut [u16],
+    m: usize,
+    p: usize,
+    g: Gate,
+    x: usize,
+    e: usize,
+    from: usize,
+) -> usize
     requires { ⌜ Holds (now b) (gatesIn (now b) m) ⌝ }
-    requires { ⌜ (p < m) × (g .target < 6) × Known (gatesIn (now b) m) (now far) ⌝ }
-    ensures { λ _. ⌜ Known (set (gatesIn (now (b .entry)) m) p g) (now (far .exit)) ⌝ }
+    requires { ⌜ (x ≤ e) × (e ≤ p) × (p < m) × (m ≤ 8000) × (m + 16 ≤ length (now far)) × Stands g × Low (now far) from ⌝ }
+    requires { ⌜ ((r : ℕ) → x ≤ r → r < e → Row (gatesIn (now b) m) r (getD (now far) r 0)) ⌝ }
+    ensures { λ _. ⌜ Again (gatesIn (now (b .entry)) m) p g (now (far .entry)) (now (far .exit)) x e ⌝ }
+    ensures { λ q. ⌜ (q ≤ from) × Low (now (far .exit)) q ⌝ }
 {
-    let mut r: usize = 0;
-    while r < p {
-        let c = far[r];
-        far[r] = look_again(b, m, p, g, r, c);
+    let mut low = from;
+    let mut r = x;
+    while r < e {
+        let n = look_again(b, m, p, g, r, far[r]);
+        far[r] = n;
+        low = lower_row(low, r, n);
         r = r + 1;
     }
-    far[p] = p + 1;
+    low
 }
 
-// Where the row stood that is row r once gate p has gone.
-fn row_before(p: usize, r: usize) -> usize
-    requires { ⌜ r < 8000 ⌝ }
-    ensures { λ q. ⌜ q ≡ stood p r ⌝ }
+// The same of at most sixteen rows, where one of them reaches gate p.
+fn look_stride(
+    b: &[u8],
+    far: &mut [u16],
+    m: usize,
+    p: usize,
+    g: Gate,
+    x: usize,
+    e: usize,
+    from: usize,
+) -> usize
+    requires { ⌜ Holds (now b) (gatesIn (now b) m) ⌝ }
+    requires { ⌜ (x ≤ e) × (e ≤ p) × (p < m) × (m ≤ 8000) × (m + 16 ≤ length (now far)) × Stands g × Low (now far) from ⌝ }
+    requires { ⌜ (e ≤ x + 16) × ((r : ℕ) → x ≤ r → r < e → Row (gatesIn (now b) m) r (getD (now far) r 0)) ⌝ }
+    ensures { λ _. ⌜ Again (gatesIn (now (b .entry)) m) p g (now (far .entry)) (now (far .exit)) x e ⌝ }
+    ensures { λ q. ⌜ (q ≤ from) × Low (now (far .exit)) q ⌝ }
 {
-    if r < p { r } else { r + 1 }
-}
-
-// A place once gate p has gone.
-fn lower_place(p: usize, c: usize) -> usize
-    ensures { λ d. ⌜ d ≡ lowered p c ⌝ }
-{
-    if p < c { c - 1 } else { c }
-}
-
-// Gate p of m has gone: the rows behind it move down, and places behind it are one less.
-pub fn close_rows(far: &mut [usize], p: usize, m: usize)
-    requires { ⌜ (p < m) × (m ≤ 8000) × (m ≤ length (now far)) ⌝ }
-    ensures { λ _. ⌜ now (far .exit) ≡ span (λ r. lowered p (getD (now (far .entry)) (stood p r) 0)) 0 (m - 1) ++ drop (m - 1) (now (far .entry)) ⌝ }
-{
-    let end = m - 1;
-    let mut r: usize = 0;
-    while r < end {
-        let c = far[row_before(p, r)];
-        far[r] = lower_place(p, c);
-        r = r + 1;
+    if (furthest(far, x) as usize) < p {
+        return from;
     }
+    look_from(b, far, m, p, g, x, e, from)
+}
+
+// Sixteen places on, or p.
+fn stride_end(x: usize, p: usize) -> usize
+    requires { ⌜ (x < p) × (p < 8000) ⌝ }
+    ensures { λ e. ⌜ (x < e) × (e ≤ p) × (e ≤ x + 16) ⌝ }
+{
+    if p < x + 16 { p } else { x + 16 }
+}
+
+// The number of row p, which starts anew with g.
+fn own_row(p: usize, g: Gate) -> u16
+    requires { ⌜ p < 8000 ⌝ }
+    ensures { λ n. ⌜ n ≡ cond (isGap g) 16384 (p + 1) ⌝ }
+{
+    if g.operator == 0 {
+        return 16384;
+    }
+    (p + 1) as u16
+}
+
+// Gate p is to become g: the rows before it are looked at again, and its own starts anew. Answers the lowest row that may have a pair then.
+pub fn settle_rows(b: &[u8], far: &mut [u16], m: usize, p: usize, g: Gate, from: usize) -> usize
+    requires { ⌜ Holds (now b) (gatesIn (now b) m) ⌝ }
+    requires { ⌜ (from ≤ p) × (p < m) × (m ≤ 8000) × Stands g × Known (gatesIn (now b) m) (now far) × Low (now far) from ⌝ }
+    ensures { λ q. ⌜ Known (set (gatesIn (now (b .entry)) m) p g) (now (far .exit)) × (q ≤ from) × Low (now (far .exit)) q ⌝ }
+{
+    let mut low = from;
+    let mut x: usize = 0;
+    while x < p {
+        let e = stride_end(x, p);
+        low = look_stride(b, far, m, p, g, x, e, low);
+        x = e;
+    }
+    far[p] = own_row(p, g);
+    low
 }

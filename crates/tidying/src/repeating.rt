@@ -1,7 +1,9 @@
 // Steps repeated until none fits.
 ghost use mathlib.Core.Path.{_≡_};
-ghost use Prim.Native.Nat.{_*_, _≤_};
+ghost use Prim.Native.Nat.{_+_, _*_, _≤_};
 ghost use lib.ListN.{length};
+ghost use Rattle.ranges.specs.Lists.{Each};
+ghost use Rattle.gates.specs.Gates.{IsGate};
 ghost use Rattle.cascades.specs.Cascades.{gatesOf};
 ghost use Rattle.tidying.specs.Buffers.{Holds, TidiedIn};
 
@@ -11,35 +13,41 @@ pub struct Done {
     pub steps: usize,
 }
 
-// Tidies the m records of the buffer, with a number for each row to remember by.
-fn repeat_steps(b: &mut [u8], far: &mut [usize], m: usize) -> Done
-    requires { ⌜ Holds (now b) (gatesOf (now b)) ⌝ }
-    requires { ⌜ (length (now b) ≡ 8 * m) × (m ≤ 8000) × (m ≤ length (now far)) ⌝ }
+// Tidies the m records of the buffer, with a number for each row to remember by, and sixteen more.
+fn repeat_steps(b: &mut [u8], far: &mut [u16], m: usize) -> Done
+    requires { ⌜ Holds (now b) (gatesOf (now b)) × Each (IsGate 6) (gatesOf (now b)) ⌝ }
+    requires { ⌜ (length (now b) ≡ 8 * m) × (m ≤ 8000) × (m + 16 ≤ length (now far)) ⌝ }
     ensures { λ r. ⌜ TidiedIn (now (b .entry)) (now (b .exit)) (r .left) (r .steps) ⌝ }
 {
     super::memory::start_rows(far, m);
-    let mut left = m;
+    let mut from: usize = 0;
     let mut steps: usize = 0;
     loop {
-        let pair = super::scan::find_pair(b, far, left);
+        let pair = super::scan::find_pair(b, far, m, from);
         let i = pair.i;
         let j = pair.j;
-        if left <= i {
+        if m <= i {
             break;
         }
-        left = super::applying::apply_rule(b, far, left, i, j);
+        from = super::applying::apply_rule(b, far, m, i, j);
         steps = steps + 1;
     }
+    let left = super::buffer::close_gaps(b, m);
     super::buffer::clear_from(b, 8 * left);
     Done { left, steps }
 }
 
 // Tidies the m records of the buffer.
 pub fn tidy_records(b: &mut [u8], m: usize) -> Done
-    requires { ⌜ Holds (now b) (gatesOf (now b)) ⌝ }
+    requires { ⌜ Holds (now b) (gatesOf (now b)) × Each (IsGate 6) (gatesOf (now b)) ⌝ }
     requires { ⌜ (length (now b) ≡ 8 * m) × (m ≤ 8000) ⌝ }
     ensures { λ r. ⌜ TidiedIn (now (b .entry)) (now (b .exit)) (r .left) (r .steps) ⌝ }
 {
-    let mut far = [0usize; 8000];
+    // A short cascade gets a short memory: clearing the long one takes longer than tidying it.
+    if m <= 64 {
+        let mut few = [0u16; 80];
+        return repeat_steps(b, &mut few, m);
+    }
+    let mut far = [0u16; 8016];
     repeat_steps(b, &mut far, m)
 }

@@ -8,7 +8,7 @@ use Rattle.cascades.specs.Cascades.{records, Whole}
 use Rattle.cascades.specs.Answers.{countedAs}
 use Rattle.cascades.proofs.Answers.{passed, check-whole, check-count, check-refused}
 use Rattle.tidying.specs.Tidying.{tidyAnswer, tidyBuffer}
-use Rattle.tidying.proofs.Buffers.{holds-start}
+use Rattle.tidying.proofs.Buffers.{holds-start, gates-start}
 use borrow.Author.Needs.{needs}
 use Rattle.tidying.proofs.tidy.Statement.{statement}
 use Rattle.tidying.proofs.tidy.Tie as tie
@@ -33,7 +33,7 @@ enum-known-m c = search needs
 tidy-records-requires : tie.Need-tidy-records-requires
 tidy-records-requires c κs =
     let w = whole (c .before) in
-    (holds-start _ _ _ w, (rw (count (c .before)) (w .size), rw (count (c .before)) (w .most)))
+    ((holds-start _ _ _ w, gates-start _ _ _ w), (rw (count (c .before)) (w .size), rw (count (c .before)) (w .most)))
 
 same-length : tie.Need-same-length
 same-length c = search needs

@@ -2,19 +2,21 @@
 use mathlib.Core.Path.{_≡_, sym, ap, ap₂, _∙_}
 use mathlib.Core.Bool.{true}
 use mathlib.Core.List.{List}
-use Prim.Native.Nat.{ℕ, _-_, _<_}
+use Prim.Native.Nat.{ℕ, _<_, _≤_}
 use native.Mathlib.Omega.{arith}
 use lib.ListN.{length, set, length-set}
 use Rattle.gates.specs.declared.Gate.{Gate}
 use Rattle.gates.specs.Gates.{inverse, IsGate}
 use Rattle.gates.proofs.Gates.{inverse-gate}
 use Rattle.tidying.specs.Rules.{cancels, merges, reduces, loosened, retuned}
-use Rattle.tidying.specs.Tidying.{gate, without}
-use Rattle.tidying.specs.Buffers.{gatesIn}
+use Rattle.tidying.specs.Tidying.{gate, ruled}
+use Rattle.tidying.specs.Buffers.{gatesIn, gap, isGap, Holds, kept, rank}
+use Rattle.tidying.specs.Rows.{Known, Low}
 use Rattle.tidying.proofs.Rules.{reduction, loosened-gate, retuned-gate}
-use Rattle.tidying.proofs.Steps.{ruled-cancel, ruled-merge, ruled-reduce, last-rule}
-use Rattle.tidying.proofs.Removals.{length-without}
-use Rattle.tidying.proofs.Buffers.{length-gates, gate-in, holds-fits, holds-gate, holds-lines}
+use Rattle.tidying.proofs.Steps.{last-rule}
+use Rattle.tidying.proofs.Gaps.{gate-real}
+use Rattle.tidying.proofs.Buffers.{length-gates, gate-in, holds-fits, holds-gate, holds-lines, holds-as, stands-gate, stands-gap}
+use Rattle.tidying.proofs.Firsts.{fits-real, ruled-none, ruled-one, ruled-two}
 use borrow.Author.Needs.{needs}
 use Rattle.tidying.proofs.applying.apply_rule.Statement.{statement}
 use Rattle.tidying.proofs.applying.apply_rule.Tie as tie
@@ -34,37 +36,48 @@ module _ (s : tie.Start) where
   count = length-gates (s .args .b .now) (s .args .m)
 
   i-inside : s .args .i < length (given s)
-  i-inside = omega (arith, count, s .pre .1)
+  i-inside = rw count (s .pre .1 .0)
 
   j-inside : s .args .j < length (given s)
-  j-inside = omega (arith, count, s .pre .1)
+  j-inside = s .pre .1 .2 .inside i-inside
 
--- how many gates are left
-both-left : (gs : List Gate) (m i j : ℕ) → length gs ≡ m → i < j → j < m → m - 2 ≡ length (without (without gs j) i)
-both-left gs m i j all ij jm =
-    let once = length-without gs j (omega arith) in
-    let twice = length-without (without gs j) i (omega arith) in
-    omega arith
+  order : s .args .i < s .args .j
+  order = s .pre .1 .2 .clear i-inside .order
 
-one-left : (gs : List Gate) (m i j : ℕ) (h : Gate) → length gs ≡ m → i < j → j < m → m - 1 ≡ length (without (set gs j h) i)
-one-left gs m i j h all ij jm =
-    let same = length-set gs j h in
-    let once = length-without (set gs j h) i (omega arith) in
-    omega arith
+  first-gate : IsGate 6 (first s)
+  first-gate = holds-gate _ _ (s .pre .0) _ i-inside .real (s .pre .1 .2 .gate-i i-inside)
+
+  second-gate : IsGate 6 (second s)
+  second-gate =
+      holds-gate _ _ (s .pre .0) _ j-inside .real
+      (fits-real (given s) (s .pre .0 .gates) (s .args .i) (s .args .j) i-inside j-inside (s .pre .1 .2 .gate-i i-inside) (s .pre .1 .2 .fit i-inside))
+
+  -- two gates in their place, which are what the rule leaves
+  done : (g h : Gate) (b far : List ℕ) (q : ℕ) → kept (set (set (given s) (s .args .j) h) (s .args .i) g) ≡ ruled (kept (given s)) (rank (given s) (s .args .i)) (rank (given s) (s .args .j))
+      → Holds b (set (set (given s) (s .args .j) h) (s .args .i) g) → Known (set (set (given s) (s .args .j) h) (s .args .i) g) far → q ≤ s .args .i → Low far q
+      → (Holds b (gatesIn b (s .args .m)) × (kept (gatesIn b (s .args .m)) ≡ ruled (kept (given s)) (rank (given s) (s .args .i)) (rank (given s) (s .args .j))))
+      × (Known (gatesIn b (s .args .m)) far × (q ≤ s .args .m) × Low far q)
+  done g h b far q e holds known le low =
+      holds-as
+      (λ gs.
+      (Holds b gs × (kept gs ≡ ruled (kept (given s)) (rank (given s) (s .args .i)) (rank (given s) (s .args .j)))) × (Known gs far × (q ≤ s .args .m) × Low far q))
+      b (set (set (given s) (s .args .j) h) (s .args .i) g) (s .args .m) holds
+      (length-set (set (given s) (s .args .j) h) (s .args .i) g ∙ length-set (given s) (s .args .j) h ∙ count)
+      ((holds, e), (known, omega (arith, s .pre .1 .0), low))
 
 -- the records read as the pair
 module _ (c : tie.After-read-gate2) where
   first-is : c .before .before .read-gate .result ≡ first (c .before .before .before .before .before .before)
-  first-is = c .before .before .read-gate .ensures ∙ sym (gate-in (c .before .before .before .before .before .before .args .b .now) (c .before .before .before .before .before .before .args .m) (c .before .before .before .before .before .before .args .i) (omega (arith, c .before .before .before .before .before .before .pre .1)))
+  first-is = c .before .before .read-gate .ensures ∙ sym (gate-in (c .before .before .before .before .before .before .args .b .now) (c .before .before .before .before .before .before .args .m) (c .before .before .before .before .before .before .args .i) (c .before .before .before .before .before .before .pre .1 .0))
 
   second-is : c .read-gate2 .result ≡ second (c .before .before .before .before .before .before)
-  second-is = c .read-gate2 .ensures ∙ sym (gate-in (c .before .before .before .before .before .before .args .b .now) (c .before .before .before .before .before .before .args .m) (c .before .before .before .before .before .before .args .j) (c .before .before .before .before .before .before .pre .1 .1))
+  second-is = c .read-gate2 .ensures ∙ sym (gate-in (c .before .before .before .before .before .before .args .b .now) (c .before .before .before .before .before .before .args .m) (c .before .before .before .before .before .before .args .j) (rw (count (c .before .before .before .before .before .before)) at (j-inside (c .before .before .before .before .before .before))))
 
   first-ok : IsGate 6 (c .before .before .read-gate .result)
-  first-ok = rw first-is (holds-gate _ _ (c .before .before .before .before .before .before .pre .0) _ (i-inside (c .before .before .before .before .before .before)))
+  first-ok = rw first-is (first-gate (c .before .before .before .before .before .before))
 
   second-ok : IsGate 6 (c .read-gate2 .result)
-  second-ok = rw second-is (holds-gate _ _ (c .before .before .before .before .before .before .pre .0) _ (j-inside (c .before .before .before .before .before .before)))
+  second-ok = rw second-is (second-gate (c .before .before .before .before .before .before))
 
 -- what the tests say of it
 module _ (c : tie.After-cancels-pair) where
@@ -79,7 +92,7 @@ module _ (c : tie.Else2) where
   reduces-is : reduces (c .before .before .before .before .before .before .read-gate .result) (c .before .before .before .before .read-gate2 .result) ≡ true
   reduces-is =
       rw (first-is (c .before .before .before .before), second-is (c .before .before .before .before))
-      (last-rule _ _ (c .before .before .before .before .before .before .before .before .before .before .pre .1 .3) (cancels-is (c .before .before .before) ∙ c .before .before .if1 .left) (merges-is (c .before) ∙ c .if2 .left))
+      (last-rule _ _ (c .before .before .before .before .before .before .before .before .before .before .pre .1 .2 .fit (i-inside (c .before .before .before .before .before .before .before .before .before .before))) (cancels-is (c .before .before .before) ∙ c .before .before .if1 .left) (merges-is (c .before) ∙ c .if2 .left))
 
 -- what control reduction makes of it
 module _ (c : tie.After-reduce-pair) where
@@ -89,26 +102,36 @@ module _ (c : tie.After-reduce-pair) where
   tuned-is : c .reduce-pair .result .second ≡ retuned (first (c .before .before .before .before .before .before .before .before .before .before .before)) (second (c .before .before .before .before .before .before .before .before .before .before .before))
   tuned-is = c .reduce-pair .ensures .1 ∙ ap₂ retuned (first-is (c .before .before .before .before .before)) (second-is (c .before .before .before .before .before))
 
+  loose-ok : IsGate 6 (c .reduce-pair .result .first)
+  loose-ok = rw (c .reduce-pair .ensures .0) (loosened-gate _ _ (reduction _ _ (reduces-is (c .before))) _ (first-ok (c .before .before .before .before .before)))
+
+  tuned-ok : IsGate 6 (c .reduce-pair .result .second)
+  tuned-ok = rw (c .reduce-pair .ensures .1) (retuned-gate _ _ (reduction _ _ (reduces-is (c .before))) _ (second-ok (c .before .before .before .before .before)))
+
+-- the other C
+module _ (c : tie.After-invert) where
+  turned-ok : IsGate 6 (c .invert .result)
+  turned-ok = rw (c .invert .ensures) (inverse-gate _ _ (second-ok (c .before .before .before .before .before .before .before .before)))
+
 read-gate-requires : tie.Need-read-gate-requires
-read-gate-requires c κs =
-    let s = c .before .before .before in
-    (holds-fits _ _ (s .pre .0) _ (i-inside s), holds-lines _ _ (s .pre .0) _ (i-inside s))
+read-gate-requires c κs = (holds-fits _ _ (c .before .before .before .pre .0) _ (i-inside (c .before .before .before)), holds-lines _ _ (c .before .before .before .pre .0) _ (i-inside (c .before .before .before)))
 
 read-gate-requires-2 : tie.Need-read-gate-requires-2
-read-gate-requires-2 c κs =
-    let s = c .before .before .before .before .before in
-    (holds-fits _ _ (s .pre .0) _ (j-inside s), holds-lines _ _ (s .pre .0) _ (j-inside s))
+read-gate-requires-2 c κs = (holds-fits _ _ (c .before .before .before .before .before .pre .0) _ (j-inside (c .before .before .before .before .before)), holds-lines _ _ (c .before .before .before .before .before .pre .0) _ (j-inside (c .before .before .before .before .before)))
 
 cancels-pair-requires : tie.Need-cancels-pair-requires
 cancels-pair-requires c κs = search needs
 
-take-both-requires : tie.Need-take-both-requires
-take-both-requires c κs =
-    let s = c .before .before .before .before .before .before .before .before .before .before in
-    (s .pre .0, (s .pre .1 .0, s .pre .1 .1, s .pre .1 .2, s .pre .1 .4))
+leave-gap-requires : tie.Need-leave-gap-requires
+leave-gap-requires c κs = search needs
 
-sub-result : tie.Need-sub-result
-sub-result c = omega (arith, c .before .before .before .before .before .before .before .before .before .before .before .before .before .before .before .pre .1)
+leave-gap-requires-2 : tie.Need-leave-gap-requires-2
+leave-gap-requires-2 c κs = search needs
+
+replace-both-requires : tie.Need-replace-both-requires
+replace-both-requires c κs =
+    let s = c .before .before .before .before .before .before .before .before .before .before .before .before in
+    (s .pre .0, (order s, rw (count s) at (j-inside s), s .pre .1 .1, rw (c .before .leave-gap .ensures) stands-gap, rw (c .leave-gap2 .ensures) stands-gap, s .pre .1 .3, s .pre .1 .4))
 
 same-length : tie.Need-same-length
 same-length c = search needs
@@ -117,25 +140,27 @@ same-length-2 : tie.Need-same-length-2
 same-length-2 c = search needs
 
 returns : tie.Need-returns
+unfolding isGap
 returns c =
-    let d = c .before .before .before .before in
-    let s = c .before .before .before .before .before .before .before .before .before .before .before .before .before .before .before in
-    let e = ruled-cancel (given s) (s .args .i) (s .args .j) (cancels-is (c .before .before .before .before .before .before .before .before) ∙ c .before .before .before .before .before .before .before .if1 .taken) in
-    ((rw e (d .take-both .ensures .0), rw e (both-left _ _ _ _ (count s) (s .pre .1 .0) (s .pre .1 .1))), rw e (d .take-both .ensures .1))
+    let s = c .before .before .before .before .before .before .before .before .before .before .before .before .before .before .before .before .before in
+    let d = c .before .before .before .before .replace-both .ensures in
+    done s _ _ _ _ _
+    (ruled-none (given s) (s .pre .0 .gates) (s .args .i) (s .args .j) (i-inside s) (s .pre .1 .2) _ _ (cancels-is (c .before .before .before .before .before .before .before .before .before .before) ∙ c .before .before .before .before .before .before .before .before .before .if1 .taken) (rw (c .before .before .before .before .before .before .leave-gap .ensures)) (rw (c .before .before .before .before .before .leave-gap2 .ensures)))
+    (d .0) (d .1 .0) (d .1 .1) (d .1 .2)
 
 merges-pair-requires : tie.Need-merges-pair-requires
 merges-pair-requires c κs = search needs
 
+leave-gap-requires-3 : tie.Need-leave-gap-requires-3
+leave-gap-requires-3 c κs = search needs
+
 invert-requires : tie.Need-invert-requires
 invert-requires c κs = search needs
 
-take-one-requires : tie.Need-take-one-requires
-take-one-requires c κs =
-    let s = c .before .before .before .before .before .before .before .before .before .before .before .before .before in
-    (s .pre .0, (s .pre .1 .0, s .pre .1 .1, s .pre .1 .2, rw (c .invert .ensures) (inverse-gate _ _ (second-ok (c .before .before .before .before .before .before .before))), s .pre .1 .4))
-
-sub-result-2 : tie.Need-sub-result-2
-sub-result-2 c = omega (arith, c .before .before .before .before .before .before .before .before .before .before .before .before .before .before .before .before .before .before .pre .1)
+replace-both-requires-2 : tie.Need-replace-both-requires-2
+replace-both-requires-2 c κs =
+    let s = c .before .before .before .before .before .before .before .before .before .before .before .before .before .before in
+    (s .pre .0, (order s, rw (count s) at (j-inside s), s .pre .1 .1, rw (c .before .leave-gap3 .ensures) stands-gap, stands-gate _ (turned-ok c), s .pre .1 .3, s .pre .1 .4))
 
 same-length-3 : tie.Need-same-length-3
 same-length-3 c = search needs
@@ -144,35 +169,22 @@ same-length-4 : tie.Need-same-length-4
 same-length-4 c = search needs
 
 returns-2 : tie.Need-returns-2
+unfolding isGap
 returns-2 c =
-    let d = c .before .before .before .before in
-    let s = c .before .before .before .before .before .before .before .before .before .before .before .before .before .before .before .before .before .before in
-    let e = ruled-merge (given s) (s .args .i) (s .args .j) (cancels-is (c .before .before .before .before .before .before .before .before .before .before .before) ∙ c .before .before .before .before .before .before .before .before .before .before .if1 .left) (merges-is (c .before .before .before .before .before .before .before .before .before) ∙ c .before .before .before .before .before .before .before .before .if2 .taken) in
-    let h : c .before .before .before .before .before .invert .result ≡ inverse (second (c .before .before .before .before .before .before .before .before .before .before .before .before .before .before .before .before .before .before)) = c .before .before .before .before .before .invert .ensures ∙ ap inverse (second-is (c .before .before .before .before .before .before .before .before .before .before .before .before)) in (
-      (
-        rw (e, ← h) (d .take-one .ensures .0),
-        rw e (one-left (given s) (s .args .m) (s .args .i) (s .args .j) (inverse (second s)) (count s) (s .pre .1 .0) (s .pre .1 .1)),
-      ),
-      rw (e, ← h) (d .take-one .ensures .1),
-    )
+    let s = c .before .before .before .before .before .before .before .before .before .before .before .before .before .before .before .before .before .before .before in
+    let d = c .before .before .before .before .replace-both2 .ensures in
+    done s _ _ _ _ _
+    (ruled-one (given s) (s .pre .0 .gates) (s .args .i) (s .args .j) (i-inside s) (s .pre .1 .2) _ _ (cancels-is (c .before .before .before .before .before .before .before .before .before .before .before .before) ∙ c .before .before .before .before .before .before .before .before .before .before .before .if1 .left) (merges-is (c .before .before .before .before .before .before .before .before .before .before) ∙ c .before .before .before .before .before .before .before .before .before .if2 .taken) (rw (c .before .before .before .before .before .before .leave-gap3 .ensures))
+    (gate-real _ (turned-ok (c .before .before .before .before .before))) (c .before .before .before .before .before .invert .ensures ∙ ap inverse (second-is (c .before .before .before .before .before .before .before .before .before .before .before .before .before))))
+    (d .0) (d .1 .0) (d .1 .1) (d .1 .2)
 
 reduce-pair-requires : tie.Need-reduce-pair-requires
 reduce-pair-requires c κs = (reduces-is c, first-ok (c .before .before .before .before) .packed, second-ok (c .before .before .before .before) .packed)
 
-replace-both-requires : tie.Need-replace-both-requires
-replace-both-requires c κs =
+replace-both-requires-3 : tie.Need-replace-both-requires-3
+replace-both-requires-3 c κs =
     let s = c .before .before .before .before .before .before .before .before .before .before .before .before .before in
-    let d = c .before .before in
-    let r = reduction _ _ (reduces-is (c .before .before .before)) in (
-      s .pre .0,
-      (
-        s .pre .1 .0,
-        s .pre .1 .1,
-        rw (d .reduce-pair .ensures .0) (loosened-gate _ _ r _ (first-ok (c .before .before .before .before .before .before .before))),
-        rw (d .reduce-pair .ensures .1) (retuned-gate _ _ r _ (second-ok (c .before .before .before .before .before .before .before))),
-        s .pre .1 .4,
-      ),
-    )
+    (s .pre .0, (order s, rw (count s) at (j-inside s), s .pre .1 .1, stands-gate _ (loose-ok (c .before .before)), stands-gate _ (tuned-ok (c .before .before)), s .pre .1 .3, s .pre .1 .4))
 
 same-length-5 : tie.Need-same-length-5
 same-length-5 c = search needs
@@ -182,12 +194,12 @@ same-length-6 c = search needs
 
 returns-3 : tie.Need-returns-3
 returns-3 c =
-    let d = c .before .before .before .before in
     let s = c .before .before .before .before .before .before .before .before .before .before .before .before .before .before .before .before .before .before in
-    let e = ruled-reduce (given s) (s .args .i) (s .args .j) (cancels-is (c .before .before .before .before .before .before .before .before .before .before .before) ∙ c .before .before .before .before .before .before .before .before .before .before .if1 .left) (merges-is (c .before .before .before .before .before .before .before .before .before) ∙ c .before .before .before .before .before .before .before .before .if2 .left) in (
-      (rw (e, ← loose-is (c .before .before .before .before .before .before .before), ← tuned-is (c .before .before .before .before .before .before .before)) (d .replace-both .ensures .0), rw (e, length-set, length-set) (sym (count s))),
-      rw (e, ← loose-is (c .before .before .before .before .before .before .before), ← tuned-is (c .before .before .before .before .before .before .before)) (d .replace-both .ensures .1),
-    )
+    let d = c .before .before .before .before .replace-both3 .ensures in
+    done s _ _ _ _ _
+    (ruled-two (given s) (s .pre .0 .gates) (s .args .i) (s .args .j) (i-inside s) (s .pre .1 .2) _ _ (cancels-is (c .before .before .before .before .before .before .before .before .before .before .before) ∙ c .before .before .before .before .before .before .before .before .before .before .if1 .left) (merges-is (c .before .before .before .before .before .before .before .before .before) ∙ c .before .before .before .before .before .before .before .before .if2 .left)
+    (gate-real _ (loose-ok (c .before .before .before .before .before .before .before))) (gate-real _ (tuned-ok (c .before .before .before .before .before .before .before))) (loose-is (c .before .before .before .before .before .before .before)) (tuned-is (c .before .before .before .before .before .before .before)))
+    (d .0) (d .1 .0) (d .1 .1) (d .1 .2)
 
 pub apply-rule-spec : {M : Type 1} → statement M
 apply-rule-spec =
@@ -196,20 +208,21 @@ apply-rule-spec =
     read-gate-requires
     read-gate-requires-2
     cancels-pair-requires
-    take-both-requires
-    sub-result
+    leave-gap-requires
+    leave-gap-requires-2
+    replace-both-requires
     same-length
     same-length-2
     returns
     merges-pair-requires
+    leave-gap-requires-3
     invert-requires
-    take-one-requires
-    sub-result-2
+    replace-both-requires-2
     same-length-3
     same-length-4
     returns-2
     reduce-pair-requires
-    replace-both-requires
+    replace-both-requires-3
     same-length-5
     same-length-6
     returns-3)

@@ -10,14 +10,13 @@ use Rattle.tidying.proofs.applying.replace.Tie as tie
 
 module _ (c : tie.Start) where
   inside : c .args .p < length (gatesIn (c .args .b .now) (c .args .m))
-  inside = rw (length-gates (c .args .b .now) (c .args .m)) (c .pre .1 .0)
+  inside = rw (length-gates (c .args .b .now) (c .args .m)) (c .pre .1 .1)
 
   fits : 8 * c .args .p + 8 ≤ length (c .args .b .now)
   fits = holds-fits _ _ (c .pre .0) _ inside
 
 settle-rows-requires : tie.Need-settle-rows-requires
-settle-rows-requires c κs =
-    (c .before .before .before .before .pre .0, (c .before .before .before .before .pre .1 .0, omega (arith, c .before .before .before .before .pre .1 .1 .on-line), c .before .before .before .before .pre .1 .2))
+settle-rows-requires c κs = c .before .before .before .before .pre
 
 mul-encode : tie.Need-mul-encode
 mul-encode c = omega (arith, fits (c .before .before .before .before .before .before .before .before))
@@ -32,7 +31,7 @@ same-length-2 : tie.Need-same-length-2
 same-length-2 c = search needs
 
 returns : tie.Need-returns
-returns c = (rw (c .before .before .encode .ensures) (holds-set _ _ _ _ (c .before .before .before .before .before .before .before .before .before .before .before .pre .0) (inside (c .before .before .before .before .before .before .before .before .before .before .before)) (c .before .before .before .before .before .before .before .before .before .before .before .pre .1 .1)), c .before .before .before .before .before .before .settle-rows .ensures)
+returns c = (rw (c .before .before .encode .ensures) (holds-set _ _ _ _ (c .before .before .before .before .before .before .before .before .before .before .before .pre .0) (inside (c .before .before .before .before .before .before .before .before .before .before .before)) (c .before .before .before .before .before .before .before .before .before .before .before .pre .1 .3)), c .before .before .before .before .before .before .settle-rows .ensures)
 
 pub replace-spec : {M : Type 1} → statement M
 replace-spec =

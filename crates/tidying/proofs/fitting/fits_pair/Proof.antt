@@ -1,74 +1,20 @@
--- `tidying::fitting::fits_pair` meets its contract: the three rules by the number of lines on which the controls differ. Assumes nothing.
-use mathlib.Core.Path.{_≡_, refl, sym, _∙_}
-use mathlib.Core.Bool.{Bool, true, false, _||_}
-use borrow.Author.Tests.{eq-eqb, ne-eqb, not-true, not-false}
-use Rattle.tidying.specs.Rules.{differAt, differences, cancels, merges, reduces, fits}
+-- `tidying::fitting::fits_pair` meets its contract: what cannot fit is not compared. Assumes nothing.
+use mathlib.Core.Path.{sym}
 use borrow.Author.Needs.{needs}
 use Rattle.tidying.proofs.fitting.fits_pair.Statement.{statement}
 use Rattle.tidying.proofs.fitting.fits_pair.Tie as tie
 
-module _ (c : tie.After-count-differences) where
-  counted : differences (c .before .before .before .args .g) (c .before .before .before .args .h) ≡ c .count-differences .result
-  unfolding differences differAt
-  counted = sym (c .count-differences .ensures)
+may-fit-requires : tie.Need-may-fit-requires
+may-fit-requires c κs = search needs
 
-or-false : (b : Bool) → b ≡ (b || false)
-or-false true = refl
-or-false false = refl
-
-same-lines-requires : tie.Need-same-lines-requires
-same-lines-requires c κs = search needs
+fits-closely-requires : tie.Need-fits-closely-requires
+fits-closely-requires c κs = search needs
 
 returns : tie.Need-returns
-unfolding fits cancels merges reduces
-returns c = rw (sym (c .before .same-lines .ensures) ∙ not-true _ (c .if1 .taken))
-
-count-differences-requires : tie.Need-count-differences-requires
-count-differences-requires c κs = search needs
-
-invert-op-requires : tie.Need-invert-op-requires
-invert-op-requires c κs = search needs
+returns c = search needs
 
 returns-2 : tie.Need-returns-2
-unfolding fits cancels
-returns-2 c =
-    rw (sym (c .before .before .before .before .before .before .same-lines .ensures) ∙ not-false _ (c .before .before .before .before .before .if1 .left), counted (c .before .before .before .before) ∙ c .before .before .before .if2 .taken, ← c .before .before .invert-op .ensures, eq-eqb _ _ (c .if3 .taken))
-
-is-c-requires : tie.Need-is-c-requires
-is-c-requires c κs = search needs
-
-returns-3 : tie.Need-returns-3
-unfolding fits cancels merges reduces
-returns-3 c =
-    rw (sym (c .before .before .before .before .before .before .before .before .same-lines .ensures) ∙ not-false _ (c .before .before .before .before .before .before .before .if1 .left), counted (c .before .before .before .before .before .before) ∙ c .before .before .before .before .before .if2 .taken, ← c .before .before .before .before .invert-op .ensures, ne-eqb _ _ (c .before .before .if3 .left), sym (c .before .is-c .ensures) ∙ not-true _ (c .if4 .taken))
-
-returns-4 : tie.Need-returns-4
-unfolding fits cancels merges reduces
-returns-4 c =
-    rw (sym (c .before .before .before .before .before .before .before .before .before .before .same-lines .ensures) ∙ not-false _ (c .before .before .before .before .before .before .before .before .before .if1 .left), counted (c .before .before .before .before .before .before .before .before) ∙ c .before .before .before .before .before .before .before .if2 .taken, ← c .before .before .before .before .before .before .invert-op .ensures, ne-eqb _ _ (c .before .before .before .before .if3 .left), sym (c .before .before .before .is-c .ensures) ∙ not-false _ (c .before .before .if4 .left))
-    (or-false _)
-
-returns-5 : tie.Need-returns-5
-unfolding fits cancels merges reduces
-returns-5 c =
-    rw (sym (c .before .before .before .before .same-lines .ensures) ∙ not-false _ (c .before .before .before .if1 .left), counted (c .before .before), ne-eqb _ _ (c .before .if2 .left), ne-eqb _ _ (c .if5 .taken))
-
-returns-6 : tie.Need-returns-6
-unfolding fits cancels merges reduces
-returns-6 c =
-    rw (sym (c .before .before .before .before .before .before .same-lines .ensures) ∙ not-false _ (c .before .before .before .before .before .if1 .left), counted (c .before .before .before .before) ∙ c .before .before .if5 .left)
+returns-2 c = sym (c .before .may-fit .ensures (c .if1 .left))
 
 pub fits-pair-spec : {M : Type 1} → statement M
-fits-pair-spec =
-    tie.close
-    (tie.spec
-    same-lines-requires
-    returns
-    count-differences-requires
-    invert-op-requires
-    returns-2
-    is-c-requires
-    returns-3
-    returns-4
-    returns-5
-    returns-6)
+fits-pair-spec = tie.close (tie.spec may-fit-requires fits-closely-requires returns returns-2)

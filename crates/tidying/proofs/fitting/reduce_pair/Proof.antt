@@ -37,10 +37,10 @@ find-difference-requires : tie.Need-find-difference-requires
 find-difference-requires c κs = search needs
 
 control-on-requires : tie.Need-control-on-requires
-control-on-requires c κs = on c
+control-on-requires c κs = omega (arith, on c)
 
 control-on-requires-2 : tie.Need-control-on-requires-2
-control-on-requires-2 c κs = on (c .before)
+control-on-requires-2 c κs = omega (arith, on (c .before))
 
 invert-op-requires : tie.Need-invert-op-requires
 invert-op-requires c κs = search needs

@@ -1,76 +1,93 @@
--- `tidying::memory::settle_rows` meets its contract: the rows before r are looked at again, the others are as they were. Assumes nothing.
-use Prim.Native.Nat.{_-_, _*_, _<_, _≤_}
+-- `tidying::memory::settle_rows` meets its contract: the rows before x are looked at again, the others are as they were. Assumes nothing.
+use mathlib.Core.Path.{sym, subst}
+use Prim.Native.Nat.{ℕ, _+_, _-_, _<_, _≤_}
 use native.Mathlib.Omega.{arith}
+use mathlib.Core.List.{List}
 use lib.ListN.{length, length-set}
-use borrow.Author.Needs.{needs}
+use Rattle.gates.specs.declared.Gate.{Gate}
 use Rattle.tidying.specs.Buffers.{gatesIn}
+use Rattle.tidying.specs.Rows.{Row, Low, Again}
 use Rattle.tidying.proofs.Buffers.{length-gates}
-use Rattle.tidying.proofs.Rows.{Settling, settling-start, settling-row, settling-next, settling-end}
+use Rattle.tidying.proofs.Rows.{again-start, again-more, again-end, low-set}
+use borrow.Author.Needs.{needs}
 use Rattle.tidying.proofs.memory.settle_rows.Statement.{statement}
 use Rattle.tidying.proofs.memory.settle_rows.Tie as tie
 
+record Looking (gs : List Gate) (p : ℕ) (g : Gate) (s t : List ℕ) (x from low : ℕ) : Type 0 where
+  again : Again gs p g s t 0 x
+  within : x ≤ p
+  less : low ≤ from
+  settled : Low t low
+
 abbrev Inv-loop : tie.InvT-loop
-Inv-loop b far₀ m p g r₀ far r = Settling (gatesIn b m) p g far₀ far r
+Inv-loop b far₀ m p g from low₀ x₀ far low x = Looking (gatesIn b m) p g far₀ far x from low
 
 abbrev μ-loop : tie.MeasureT-loop
-μ-loop b far₀ m p g r₀ far r = p - r
+μ-loop b far₀ m p g from low₀ x₀ far low x = p - x
 
 module _ (c : tie.At-loop Inv-loop μ-loop) where
   p-inside : c .before .before .before .args .p < length (gatesIn (c .before .before .before .args .b .now) (c .before .before .before .args .m))
-  p-inside = rw (length-gates (c .before .before .before .args .b .now) (c .before .before .before .args .m)) (c .before .before .before .pre .1 .0)
+  p-inside = rw (length-gates (c .before .before .before .args .b .now) (c .before .before .before .args .m)) (c .before .before .before .pre .1 .1)
 
-  -- the places of records are numbers of the machine
-  small : 8 * c .before .before .before .args .p ≤ length (c .before .before .before .args .b .now)
-  small = omega (arith, p-inside, c .before .before .before .pre .0 .room)
-
-  room : c .before .before .before .args .p < length (c .before .before .before .args .far .now)
-  room = omega (arith, p-inside, c .before .before .before .pre .1 .2 .room)
-
-  room-now : c .before .before .before .args .p < length (c .loop .far)
-  room-now = rw (c .loop .inv .len) room
+  long : c .before .before .before .args .m + 16 ≤ length (c .loop .far)
+  long = rw (c .loop .inv .again .len) (omega (arith, length-gates (c .before .before .before .args .b .now) (c .before .before .before .args .m), c .before .before .before .pre .1 .4 .room))
 
 loop-holds : tie.Need-loop-holds Inv-loop μ-loop
-loop-holds c = settling-start _ _ _ _
+loop-holds c = record { again = again-start _ _ _ _ _; within = omega arith; less = omega arith; settled = c .before .before .pre .1 .5 }
 
-mul-c : tie.Need-mul-c Inv-loop μ-loop
-mul-c c = omega (arith, small (c .before))
+stride-end-requires : tie.Need-stride-end-requires Inv-loop μ-loop
+stride-end-requires c κs = (c .loop-test .taken, omega (arith, c .before .before .before .before .pre .1))
 
-slice-read-c : tie.Need-slice-read-c Inv-loop μ-loop
-slice-read-c c = omega (arith, room-now (c .before .before))
-
-look-again-requires : tie.Need-look-again-requires Inv-loop μ-loop
-look-again-requires c κs =
-    (c .before .before .before .before .before .pre .0, (c .before .loop-test .taken, c .before .before .before .before .before .pre .1 .0, c .before .before .before .before .before .pre .1 .1, settling-row _ _ _ _ _ _ (c .before .before .before .before .before .pre .1 .2) (p-inside (c .before .before)) (c .before .loop-test .taken) (c .before .before .loop .inv)))
-
-mul-far : tie.Need-mul-far Inv-loop μ-loop
-mul-far c = omega (arith, small (c .before .before .before))
-
-slice-write-far : tie.Need-slice-write-far Inv-loop μ-loop
-slice-write-far c = omega (arith, room-now (c .before .before .before))
-
-add-r : tie.Need-add-r Inv-loop μ-loop
-add-r c = search needs
+look-stride-requires : tie.Need-look-stride-requires Inv-loop μ-loop
+look-stride-requires c κs =
+    let s = c .before .before .before .before .before .before in
+    let w = c .before .before .before .loop .inv in
+    let e = c .before .stride-end .ensures in
+    let count = length-gates (c .before .before .before .before .before .before .args .b .now) (c .before .before .before .before .before .before .args .m) in (
+      s .pre .0,
+      (
+        (omega (arith, e .0), e .1, s .pre .1 .1, s .pre .1 .2, long (c .before .before .before), s .pre .1 .3, w .settled),
+        (
+          e .2,
+          λ r a b.
+              subst (Row (gatesIn (c .before .before .before .before .before .before .args .b .now) (c .before .before .before .before .before .before .args .m)) r) (sym (w .again .above r a))
+              (s .pre .1 .4 .rows r (omega (arith, count, s .pre .1 .1, e .1))),
+        ),
+      ),
+    )
 
 loop-less : tie.Need-loop-less Inv-loop μ-loop
-loop-less c = search needs
+loop-less c = omega (arith, c .before .before .before .before .stride-end .ensures)
 
 loop-again : tie.Need-loop-again Inv-loop μ-loop
-loop-again c = settling-next _ _ _ _ _ _ _ (c .before .before .loop-test .taken) (room (c .before .before .before)) (c .before .before .before .loop .inv) (c .look-again .ensures)
+loop-again c =
+    record {
+      again = again-more _ _ _ _ _ _ _ _ _ (omega arith) (omega (arith, c .before .before .before .before .stride-end .ensures .0)) (c .before .before .before .before .before .before .loop .inv .again) (c .before .before .look-stride .ensures .0);
+      within = c .before .before .before .before .stride-end .ensures .1;
+      less = omega (arith, c .before .before .look-stride .ensures .1 .0, c .before .before .before .before .before .before .loop .inv .less);
+      settled = c .before .before .look-stride .ensures .1 .1;
+    }
 
-add-far : tie.Need-add-far Inv-loop μ-loop
-add-far c = search needs
+own-row-requires : tie.Need-own-row-requires Inv-loop μ-loop
+own-row-requires c κs = omega (arith, c .before .before .before .before .pre .1)
 
-mul-far-2 : tie.Need-mul-far-2 Inv-loop μ-loop
-mul-far-2 c = omega (arith, small (c .before))
+mul-far : tie.Need-mul-far Inv-loop μ-loop
+mul-far c = search needs
 
-slice-write-far-2 : tie.Need-slice-write-far-2 Inv-loop μ-loop
-slice-write-far-2 c = room-now (c .before)
+slice-write-far : tie.Need-slice-write-far Inv-loop μ-loop
+slice-write-far c = omega (arith, long (c .before .before), c .before .before .before .before .before .pre .1)
 
 same-length : tie.Need-same-length Inv-loop μ-loop
-same-length c = simp length-set (c .before .loop .inv .len)
+same-length c = simp length-set (c .before .before .loop .inv .again .len)
 
 returns : tie.Need-returns Inv-loop μ-loop
-returns c = settling-end _ _ _ _ _ _ (c .before .before .before .before .pre .1 .2) (p-inside (c .before)) (c .loop-test .left) (c .before .loop .inv)
+returns c =
+    let w = c .before .before .loop .inv in
+    let s = c .before .before .before .before .before in (
+      again-end _ _ _ _ _ _ _ (s .pre .1 .4) (p-inside (c .before .before)) (omega (arith, s .pre .1)) (c .before .loop-test .left) (w .within) (w .again) (c .own-row .ensures),
+      w .less,
+      low-set (c .before .before .loop .far) (c .before .before .before .before .before .args .p) (c .own-row .result) (c .before .before .loop .low) (c .before .before .loop .low) (omega (arith, long (c .before .before), s .pre .1)) (w .settled) (omega arith) (λ l. absurd (omega (arith, w .less, s .pre .1 .0))),
+    )
 
 pub settle-rows-spec : {M : Type 1} → statement M
 settle-rows-spec =
@@ -79,16 +96,12 @@ settle-rows-spec =
     Inv-loop
     μ-loop
     loop-holds
-    mul-c
-    slice-read-c
-    look-again-requires
-    mul-far
-    slice-write-far
-    add-r
+    stride-end-requires
+    look-stride-requires
     loop-less
     loop-again
-    add-far
-    mul-far-2
-    slice-write-far-2
+    own-row-requires
+    mul-far
+    slice-write-far
     same-length
     returns)

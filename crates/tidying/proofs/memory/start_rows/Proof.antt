@@ -2,8 +2,8 @@
 use mathlib.Core.Path.{_≡_, refl}
 use Prim.Native.Nat.{_+_, _-_, _≤_}
 use native.Mathlib.Omega.{arith}
-use borrow.Author.Needs.{needs}
 use Rattle.ranges.proofs.Fills.{filled, Filling, filling-start, filling-length, filling-next}
+use borrow.Author.Needs.{needs}
 use Rattle.tidying.proofs.memory.start_rows.Statement.{statement}
 use Rattle.tidying.proofs.memory.start_rows.Tie as tie
 
@@ -18,6 +18,9 @@ loop-holds c = (search needs, filling-start _ _)
 
 add-far : tie.Need-add-far Inv-loop μ-loop
 add-far c = search needs
+
+cast-far : tie.Need-cast-far Inv-loop μ-loop
+cast-far c = search needs
 
 mul-far : tie.Need-mul-far Inv-loop μ-loop
 mul-far c = search needs
@@ -49,6 +52,7 @@ start-rows-spec =
     μ-loop
     loop-holds
     add-far
+    cast-far
     mul-far
     slice-write-far
     add-r

@@ -1,45 +1,54 @@
--- `tidying::passing::may_change` meets its contract: the three reasons against it, one after the other. Assumes nothing.
-use mathlib.Core.Path.{sym, _∙_}
-use Rattle.tidying.specs.Places.{mayChange}
+-- `tidying::passing::may_change` meets its contract: the reasons against it are counted. Assumes nothing.
+use mathlib.Core.Path.{_≡_, refl}
+use mathlib.Core.Bool.{Bool, true, false, cond, not, _||_}
+use Prim.Native.Nat.{_+_, _≤_}
+use native.Mathlib.Omega.{arith}
+use lib.Dec.{eqb}
+use Rattle.tidying.specs.Places.{blocks, clashes, mayChange}
 use borrow.Author.Needs.{needs}
 use Rattle.tidying.proofs.passing.may_change.Statement.{statement}
 use Rattle.tidying.proofs.passing.may_change.Tie as tie
 
+none-counted : (x y z : Bool) → eqb (cond x 1 0 + cond y 1 0 + cond z 1 0) 0 ≡ not (x || y || z)
+none-counted true true true = refl
+none-counted true true false = refl
+none-counted true false true = refl
+none-counted true false false = refl
+none-counted false true true = refl
+none-counted false true false = refl
+none-counted false false true = refl
+none-counted false false false = refl
+
+one-most : (x : Bool) → cond x 1 0 ≤ 1
+one-most true = omega arith
+one-most false = omega arith
+
 targets-clash-requires : tie.Need-targets-clash-requires
 targets-clash-requires c κs = search needs
-
-returns : tie.Need-returns
-unfolding mayChange
-returns c = rw (sym (c .before .targets-clash .ensures) ∙ c .if1 .taken)
 
 blocks-gate-requires : tie.Need-blocks-gate-requires
 blocks-gate-requires c κs = search needs
 
-returns-2 : tie.Need-returns-2
-unfolding mayChange
-returns-2 c = rw (sym (c .before .before .before .targets-clash .ensures) ∙ c .before .before .if1 .left, sym (c .before .blocks-gate .ensures) ∙ c .if2 .taken)
+add-result : tie.Need-add-result
+add-result c = rw (c .before .targets-clash .ensures, c .blocks-gate .ensures) (omega (arith, one-most (clashes (c .before .before .args .g) (c .before .before .args .h)), one-most (blocks (c .before .before .args .g) (c .before .before .args .h))))
 
 blocks-gate-requires-2 : tie.Need-blocks-gate-requires-2
 blocks-gate-requires-2 c κs = search needs
 
-returns-3 : tie.Need-returns-3
-unfolding mayChange
-returns-3 c =
-    rw (sym (c .before .before .before .before .before .targets-clash .ensures) ∙ c .before .before .before .before .if1 .left, sym (c .before .before .before .blocks-gate .ensures) ∙ c .before .before .if2 .left, sym (c .before .blocks-gate2 .ensures) ∙ c .if3 .taken)
+add-result-2 : tie.Need-add-result-2
+add-result-2 c = rw (c .before .before .targets-clash .ensures, c .before .blocks-gate .ensures, c .blocks-gate2 .ensures) (omega (arith, one-most (clashes (c .before .before .before .args .g) (c .before .before .before .args .h)), one-most (blocks (c .before .before .before .args .g) (c .before .before .before .args .h)), one-most (blocks (c .before .before .before .args .h) (c .before .before .before .args .g))))
 
-returns-4 : tie.Need-returns-4
+returns : tie.Need-returns
 unfolding mayChange
-returns-4 c =
-    rw (sym (c .before .before .before .before .before .targets-clash .ensures) ∙ c .before .before .before .before .if1 .left, sym (c .before .before .before .blocks-gate .ensures) ∙ c .before .before .if2 .left, sym (c .before .blocks-gate2 .ensures) ∙ c .if3 .left)
+returns c = rw (c .before .before .targets-clash .ensures, c .before .blocks-gate .ensures, c .blocks-gate2 .ensures) (none-counted (clashes (c .before .before .before .args .g) (c .before .before .before .args .h)) (blocks (c .before .before .before .args .g) (c .before .before .before .args .h)) (blocks (c .before .before .before .args .h) (c .before .before .before .args .g)))
 
 pub may-change-spec : {M : Type 1} → statement M
 may-change-spec =
     tie.close
     (tie.spec
     targets-clash-requires
-    returns
     blocks-gate-requires
-    returns-2
+    add-result
     blocks-gate-requires-2
-    returns-3
-    returns-4)
+    add-result-2
+    returns)

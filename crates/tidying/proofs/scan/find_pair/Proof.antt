@@ -1,143 +1,225 @@
--- `tidying::scan::find_pair` meets its contract. The rows before i have no pair, and row i is clear up to j; the labelled break leaves both loops
--- with the pair found. Assumes nothing.
-use mathlib.Core.Path.{_≡_, sym, ap₂, _∙_}
+-- `tidying::scan::find_pair` meets its contract. The rows before i have no pair, row i may have one and is clear up to j; the labelled break leaves
+-- both loops with the pair found. Assumes nothing.
+use mathlib.Core.Path.{_≡_, refl, sym, ap₂, _∙_}
+use mathlib.Core.Bool.{false}
 use mathlib.Core.Logic.{⊎-elim}
 use mathlib.Core.List.{List}
-use Prim.Native.Nat.{ℕ, _-_, _*_, _<_, _≤_}
+use Prim.Native.Nat.{ℕ, _+_, _-_, _<_, _≤_}
 use native.Mathlib.Omega.{arith}
-use lib.ListN.{length}
+use lib.ListN.{length, getD, set, length-set}
 use borrow.Author.Tests.{not-true, not-false}
 use borrow.Author.Needs.{needs}
+use Rattle.gates.specs.declared.Gate.{Gate}
 use Rattle.tidying.specs.Places.{mayChange}
 use Rattle.tidying.specs.Rules.{fits}
 use Rattle.tidying.specs.Tidying.{gate}
-use Rattle.tidying.specs.Buffers.{gatesIn}
-use Rattle.tidying.specs.Rows.{Clear}
+use Rattle.tidying.specs.Buffers.{gatesIn, isGap}
+use Rattle.tidying.specs.Rows.{Clear, Stops, Known, Low}
 use Rattle.tidying.proofs.Buffers.{length-gates, gate-in, holds-fits, holds-gate, holds-lines}
-use Rattle.tidying.proofs.Rows.{Searching, searching-start, searching-next, searching-end, searching-hit, clear-next, row-ends, row-stops}
+use Rattle.tidying.proofs.Rows.{row-real, row-clear, known-stops, low-next}
+use Rattle.tidying.proofs.Firsts.{clear-run}
 use Rattle.tidying.proofs.scan.find_pair.Statement.{statement}
 use Rattle.tidying.proofs.scan.find_pair.Tie as tie
 
+record Searching (gs : List Gate) (s t : List ℕ) (m i : ℕ) : Type 0 where
+  within : i ≤ m
+  known : Known gs t
+  low : Low t i
+  unsure : i < m → getD t i 0 < 16384
+  len : length t ≡ length s
+
 abbrev Inv-loop : tie.InvT-loop
-Inv-loop b far m i j₀ g j = Clear (gatesIn b m) i j
+Inv-loop b far m from i j₀ g j = Clear (gatesIn b m) i j
 
 abbrev μ-loop : tie.MeasureT-loop
-μ-loop b far m i j₀ g j = m - j
+μ-loop b far m from i j₀ g j = m - j
 
 abbrev Inv-rows : tie.InvT-rows
-Inv-rows b far₀ m i₀ j₀ far i j = Searching (gatesIn b m) far₀ far m i
+Inv-rows b far₀ m from i₀ j₀ far i j = Searching (gatesIn b m) far₀ far m i
 
 abbrev μ-rows : tie.MeasureT-rows
-μ-rows b far₀ m i₀ j₀ far i j = m - i
+μ-rows b far₀ m from i₀ j₀ far i j = m - i
 
 -- a place below m is one of a gate
 below : (b : List ℕ) (m q : ℕ) → q < m → q < length (gatesIn b m)
 below b m q lt = rw (length-gates b m) lt
 
+-- the gates of the buffer
+abbrev gates : tie.Start Inv-loop μ-loop Inv-rows μ-rows → List Gate
+gates s = gatesIn (s .args .b .now) (s .args .m)
+
+module _ (s : tie.Start Inv-loop μ-loop Inv-rows μ-rows) where
+  count : length (gates s) ≡ s .args .m
+  count = length-gates (s .args .b .now) (s .args .m)
+
 -- row i
 module _ (c : tie.In-rows Inv-loop μ-loop Inv-rows μ-rows) where
-  row-inside : c .before .rows .i < length (gatesIn (c .before .before .before .before .args .b .now) (c .before .before .before .before .args .m))
-  row-inside = below (c .before .before .before .before .args .b .now) (c .before .before .before .before .args .m) (c .before .rows .i) (c .rows-test .taken)
-
-  small : 8 * c .before .rows .i ≤ length (c .before .before .before .before .args .b .now)
-  small = omega (arith, row-inside, c .before .before .before .before .pre .0 .room)
+  row-inside : c .before .rows .i < length (gates (c .before .before .before .before .before .before))
+  row-inside = below (c .before .before .before .before .before .before .args .b .now) (c .before .before .before .before .before .before .args .m) (c .before .rows .i) (c .rows-test .taken)
 
   room : c .before .rows .i < length (c .before .rows .far)
   room = omega (arith, row-inside, c .before .rows .inv .known .room)
 
--- the pair i, j
-module _ (c : tie.After-read-gate2 Inv-loop μ-loop Inv-rows μ-rows) where
-  first-is : c .before .before .before .before .read-gate .result ≡ gate (gatesIn (c .before .before .before .before .before .before .before .before .before .args .b .now) (c .before .before .before .before .before .before .before .before .before .args .m)) (c .before .before .before .before .before .before .rows .i)
-  first-is = c .before .before .before .before .read-gate .ensures ∙ sym (gate-in (c .before .before .before .before .before .before .before .before .before .args .b .now) (c .before .before .before .before .before .before .before .before .before .args .m) (c .before .before .before .before .before .before .rows .i) (c .before .before .before .before .before .rows-test .taken))
+  real : isGap (gate (gates (c .before .before .before .before .before .before)) (c .before .rows .i)) ≡ false
+  real = row-real _ _ _ (c .before .rows .inv .known .rows _ row-inside) (c .before .rows .inv .unsure (c .rows-test .taken))
 
-  second-is : c .read-gate2 .result ≡ gate (gatesIn (c .before .before .before .before .before .before .before .before .before .args .b .now) (c .before .before .before .before .before .before .before .before .before .args .m)) (c .before .before .loop .j)
-  second-is = c .read-gate2 .ensures ∙ sym (gate-in (c .before .before .before .before .before .before .before .before .before .args .b .now) (c .before .before .before .before .before .before .before .before .before .args .m) (c .before .before .loop .j) (c .before .loop-test .taken))
+-- the pair i, j
+module _ (c : tie.In-loop Inv-loop μ-loop Inv-rows μ-rows) where
+  place-inside : c .before .loop .j < length (gates (c .before .before .before .before .before .before .before .before .before .before))
+  place-inside = below (c .before .before .before .before .before .before .before .before .before .before .args .b .now) (c .before .before .before .before .before .before .before .before .before .before .args .m) (c .before .loop .j) (c .loop-test .taken)
+
+module _ (c : tie.After-read-gate2 Inv-loop μ-loop Inv-rows μ-rows) where
+  first-is : c .before .before .before .before .read-gate .result ≡ gate (gates (c .before .before .before .before .before .before .before .before .before .before .before)) (c .before .before .before .before .before .before .rows .i)
+  first-is = c .before .before .before .before .read-gate .ensures ∙ sym (gate-in (c .before .before .before .before .before .before .before .before .before .before .before .args .b .now) (c .before .before .before .before .before .before .before .before .before .before .before .args .m) (c .before .before .before .before .before .before .rows .i) (c .before .before .before .before .before .rows-test .taken))
+
+  second-is : c .read-gate2 .result ≡ gate (gates (c .before .before .before .before .before .before .before .before .before .before .before)) (c .before .before .loop .j)
+  second-is = c .read-gate2 .ensures ∙ sym (gate-in (c .before .before .before .before .before .before .before .before .before .before .before .args .b .now) (c .before .before .before .before .before .before .before .before .before .before .before .args .m) (c .before .before .loop .j) (c .before .loop-test .taken))
 
 module _ (c : tie.After-fits-pair Inv-loop μ-loop Inv-rows μ-rows) where
-  fits-is : fits (gate (gatesIn (c .before .before .before .before .before .before .before .before .before .before .args .b .now) (c .before .before .before .before .before .before .before .before .before .before .args .m)) (c .before .before .before .before .before .before .before .rows .i)) (gate (gatesIn (c .before .before .before .before .before .before .before .before .before .before .args .b .now) (c .before .before .before .before .before .before .before .before .before .before .args .m)) (c .before .before .before .loop .j)) ≡ c .fits-pair .result
+  fits-is : fits (gate (gates (c .before .before .before .before .before .before .before .before .before .before .before .before)) (c .before .before .before .before .before .before .before .rows .i)) (gate (gates (c .before .before .before .before .before .before .before .before .before .before .before .before)) (c .before .before .before .loop .j)) ≡ c .fits-pair .result
   fits-is = ap₂ fits (sym (first-is (c .before))) (sym (second-is (c .before))) ∙ sym (c .fits-pair .ensures)
 
 module _ (c : tie.After-may-change Inv-loop μ-loop Inv-rows μ-rows) where
-  may-is : mayChange (gate (gatesIn (c .before .before .before .before .before .before .before .before .before .before .before .before .args .b .now) (c .before .before .before .before .before .before .before .before .before .before .before .before .args .m)) (c .before .before .before .before .before .before .before .before .before .rows .i)) (gate (gatesIn (c .before .before .before .before .before .before .before .before .before .before .before .before .args .b .now) (c .before .before .before .before .before .before .before .before .before .before .before .before .args .m)) (c .before .before .before .before .before .loop .j)) ≡ c .may-change .result
+  may-is : mayChange (gate (gates (c .before .before .before .before .before .before .before .before .before .before .before .before .before .before)) (c .before .before .before .before .before .before .before .before .before .rows .i)) (gate (gates (c .before .before .before .before .before .before .before .before .before .before .before .before .before .before)) (c .before .before .before .before .before .loop .j)) ≡ c .may-change .result
   may-is = ap₂ mayChange (sym (first-is (c .before .before .before))) (sym (second-is (c .before .before .before))) ∙ sym (c .may-change .ensures)
 
+-- row i has no pair, and says so
+module _ (c : tie.Left-loop Inv-loop μ-loop Inv-rows μ-rows) where
+  stops : Stops (gates (c .before .before .before .before .before .before .before .before .before .before)) (c .before .before .before .before .before .rows .i) (c .before .loop .j)
+  stops =
+      ⊎-elim
+      (λ w.
+      let end = w .left in
+      record { unfit = λ l. absurd (omega (arith, count (c .before .before .before .before .before .before .before .before .before .before))); shut = λ l. absurd (omega (arith, count (c .before .before .before .before .before .before .before .before .before .before))) })
+      (λ w.
+      let pair : tie.After-read-gate2 Inv-loop μ-loop Inv-rows μ-rows = record { before = record { before = c .before; loop-test = w .0 }; read-gate2 = w .1 } in
+      let fit : tie.After-fits-pair Inv-loop μ-loop Inv-rows μ-rows = record { before = pair; fits-pair = w .2 } in
+      let may : tie.After-may-change Inv-loop μ-loop Inv-rows μ-rows = record { before = record { before = fit; if1 = w .3 }; may-change = w .4 } in
+      record { unfit = λ l. fits-is fit ∙ w .3 .left; shut = λ l. may-is may ∙ not-true _ (w .5 .taken) })
+      (c .loop-test .came)
+
+  stopped : Known (gates (c .before .before .before .before .before .before .before .before .before .before)) (set (c .before .before .before .before .before .rows .far) (c .before .before .before .before .before .rows .i) (c .before .loop .j + 16384))
+  stopped =
+      known-stops _ _ _ _ (row-inside (c .before .before .before .before)) (omega (arith, count (c .before .before .before .before .before .before .before .before .before .before), c .before .before .before .before .before .before .before .before .before .before .pre .1)) (c .before .before .before .before .before .rows .inv .known) (real (c .before .before .before .before)) (c .before .loop .inv) stops
+
+  near : c .before .loop .j ≤ 8000
+  near = omega (arith, count (c .before .before .before .before .before .before .before .before .before .before), c .before .before .before .before .before .before .before .before .before .before .pre .1, c .before .loop .inv .inside)
+
+next-row-requires : tie.Need-next-row-requires Inv-loop μ-loop Inv-rows μ-rows
+next-row-requires c κs = (c .before .before .before .pre .1 .0, omega (arith, count (c .before .before .before), c .before .before .before .pre .1 .2 .room), c .before .before .before .pre .1 .3)
+
 rows-holds : tie.Need-rows-holds Inv-loop μ-loop Inv-rows μ-rows
-rows-holds c = searching-start _ _ _ (length-gates _ _) (c .before .before .pre .1)
+rows-holds c = record { within = c .next-row .ensures .1; known = c .before .before .before .before .pre .1 .2; low = c .next-row .ensures .2; unsure = c .next-row .ensures .3; len = refl }
 
 read-gate-requires : tie.Need-read-gate-requires Inv-loop μ-loop Inv-rows μ-rows
-read-gate-requires c κs = (holds-fits _ _ (c .before .before .before .before .pre .0) _ (row-inside c), holds-lines _ _ (c .before .before .before .before .pre .0) _ (row-inside c))
+read-gate-requires c κs = (holds-fits _ _ (c .before .before .before .before .before .before .pre .0) _ (row-inside c), holds-lines _ _ (c .before .before .before .before .before .before .pre .0) _ (row-inside c))
 
 mul-j : tie.Need-mul-j Inv-loop μ-loop Inv-rows μ-rows
-mul-j c = omega (arith, small (c .before))
+mul-j c = search needs
 
 slice-read-j : tie.Need-slice-read-j Inv-loop μ-loop Inv-rows μ-rows
 slice-read-j c = room (c .before .before)
 
+cast-j : tie.Need-cast-j Inv-loop μ-loop Inv-rows μ-rows
+cast-j c = omega (arith, c .before .before .before .rows .inv .unsure (c .before .before .rows-test .taken))
+
 loop-holds : tie.Need-loop-holds Inv-loop μ-loop Inv-rows μ-rows
-loop-holds c = c .before .before .before .rows .inv .known .rows _ (row-inside (c .before .before))
+loop-holds c = row-clear _ _ _ (c .before .before .before .rows .inv .known .rows _ (row-inside (c .before .before))) (c .before .before .before .rows .inv .unsure (c .before .before .rows-test .taken))
 
 read-gate-requires-2 : tie.Need-read-gate-requires-2 Inv-loop μ-loop Inv-rows μ-rows
-read-gate-requires-2 c κs =
-    let inside = below (c .before .before .before .before .before .before .before .before .args .b .now) (c .before .before .before .before .before .before .before .before .args .m) (c .before .loop .j) (c .loop-test .taken) in
-    (holds-fits _ _ (c .before .before .before .before .before .before .before .before .pre .0) _ inside, holds-lines _ _ (c .before .before .before .before .before .before .before .before .pre .0) _ inside)
+read-gate-requires-2 c κs = (holds-fits _ _ (c .before .before .before .before .before .before .before .before .before .before .pre .0) _ (place-inside c), holds-lines _ _ (c .before .before .before .before .before .before .before .before .before .before .pre .0) _ (place-inside c))
 
 fits-pair-requires : tie.Need-fits-pair-requires Inv-loop μ-loop Inv-rows μ-rows
 fits-pair-requires c κs = search needs
 
 may-change-requires : tie.Need-may-change-requires Inv-loop μ-loop Inv-rows μ-rows
 may-change-requires c κs =
-    let ok-i = holds-gate _ _ (c .before .before .before .before .before .before .before .before .before .before .before .pre .0) _ (row-inside (c .before .before .before .before .before .before .before)) in
-    let ok-j = holds-gate _ _ (c .before .before .before .before .before .before .before .before .before .before .before .pre .0) _ (below (c .before .before .before .before .before .before .before .before .before .before .before .args .b .now) (c .before .before .before .before .before .before .before .before .before .before .before .args .m) (c .before .before .before .before .loop .j) (c .before .before .before .loop-test .taken)) in
-    (rw (first-is (c .before .before)) (omega (arith, ok-i .on-line)), rw (second-is (c .before .before)) (omega (arith, ok-j .on-line)))
+    let ok-i = holds-gate _ _ (c .before .before .before .before .before .before .before .before .before .before .before .before .before .pre .0) _ (row-inside (c .before .before .before .before .before .before .before)) in
+    let ok-j = holds-gate _ _ (c .before .before .before .before .before .before .before .before .before .before .before .before .before .pre .0) _ (place-inside (c .before .before .before)) in (
+      (rw (first-is (c .before .before)) (omega (arith, ok-i .op-high)), rw (first-is (c .before .before)) (omega (arith, ok-i .on-line))),
+      (rw (second-is (c .before .before)) (omega (arith, ok-j .op-high)), rw (second-is (c .before .before)) (omega (arith, ok-j .on-line))),
+    )
+
+passed-run-requires : tie.Need-passed-run-requires Inv-loop μ-loop Inv-rows μ-rows
+passed-run-requires c κs = (c .before .before .before .before .before .before .loop-test .taken, omega (arith, count (c .before .before .before .before .before .before .before .before .before .before .before .before .before .before .before .before), c .before .before .before .before .before .before .before .before .before .before .before .rows .inv .known .room))
 
 add-j : tie.Need-add-j Inv-loop μ-loop Inv-rows μ-rows
-add-j c = search needs
+add-j c = omega (arith, c .passed-run .ensures)
 
 loop-less : tie.Need-loop-less Inv-loop μ-loop Inv-rows μ-rows
-loop-less c = search needs
+loop-less c = omega (arith, c .passed-run .ensures)
 
 loop-again : tie.Need-loop-again Inv-loop μ-loop Inv-rows μ-rows
 loop-again c =
-    clear-next _ _ _ (c .before .before .before .before .before .before .loop .inv) (below _ _ _ (c .before .before .before .before .before .loop-test .taken)) (fits-is (c .before .before .before) ∙ c .before .before .if1 .left) (may-is (c .before) ∙ not-false _ (c .if2 .left))
+    let s = c .before .before .before .before .before .before .before .before .before .before .before .before .before .before .before .before .before in
+    let e = c .before .before in
+    clear-run _ _ _ _ _ (s .pre .0 .gates) (c .before .before .before .before .before .before .before .before .before .before .before .before .rows .inv .known) (c .before .before .before .before .before .before .before .before .loop .inv) (real (c .before .before .before .before .before .before .before .before .before .before .before)) (place-inside (c .before .before .before .before .before .before .before)) (fits-is (e .before .before .before) ∙ e .before .before .if1 .left) (may-is (e .before) ∙ not-false _ (e .if2 .left))
+    (omega (arith, count s, c .passed-run .ensures .1)) (c .passed-run .ensures .2)
+
+cast-far : tie.Need-cast-far Inv-loop μ-loop Inv-rows μ-rows
+cast-far c = omega (arith, near c)
+
+add-far : tie.Need-add-far Inv-loop μ-loop Inv-rows μ-rows
+add-far c = omega (arith, near c)
 
 mul-far : tie.Need-mul-far Inv-loop μ-loop Inv-rows μ-rows
-mul-far c = omega (arith, small (c .before .before .before .before))
+mul-far c = search needs
 
 slice-write-far : tie.Need-slice-write-far Inv-loop μ-loop Inv-rows μ-rows
 slice-write-far c = room (c .before .before .before .before)
 
-add-i : tie.Need-add-i Inv-loop μ-loop Inv-rows μ-rows
-add-i c = search needs
+add-next-row : tie.Need-add-next-row Inv-loop μ-loop Inv-rows μ-rows
+add-next-row c = search needs
+
+next-row-requires-2 : tie.Need-next-row-requires-2 Inv-loop μ-loop Inv-rows μ-rows
+next-row-requires-2 c κs = (
+  omega (arith, c .before .before .before .before .before .rows-test .taken),
+  omega (arith, count (c .before .before .before .before .before .before .before .before .before .before .before), stopped (c .before) .room),
+  low-next (c .before .before .before .before .before .before .rows .far) (c .before .before .before .before .before .before .rows .i) (c .before .before .loop .j + 16384) (room (c .before .before .before .before .before)) (c .before .before .before .before .before .before .rows .inv .low) (omega arith),
+)
 
 rows-less : tie.Need-rows-less Inv-loop μ-loop Inv-rows μ-rows
-rows-less c = search needs
+rows-less c = omega (arith, c .next-row2 .ensures .0)
 
 rows-again : tie.Need-rows-again Inv-loop μ-loop Inv-rows μ-rows
 rows-again c =
-    let count = length-gates (c .before .before .before .before .before .before .before .before .args .b .now) (c .before .before .before .before .before .before .before .before .args .m) in
-    searching-next _ _ _ count _ _ _ (c .before .before .before .before .before .rows .inv) (c .before .before .before .before .rows-test .taken)
-    (⊎-elim (λ w. row-ends _ _ _ (c .before .loop .inv) (omega (arith, count, w .left)))
-    (λ w.
-    let pair : tie.After-read-gate2 Inv-loop μ-loop Inv-rows μ-rows = record { before = record { before = c .before; loop-test = w .0 }; read-gate2 = w .1 } in
-    let fit : tie.After-fits-pair Inv-loop μ-loop Inv-rows μ-rows = record { before = pair; fits-pair = w .2 } in
-    let may : tie.After-may-change Inv-loop μ-loop Inv-rows μ-rows = record { before = record { before = fit; if1 = w .3 }; may-change = w .4 } in
-    row-stops _ _ _ (c .before .loop .inv) (omega (arith, count, w .0 .taken)) (fits-is fit ∙ w .3 .left) (may-is may ∙ not-true _ (w .5 .taken)))
-    (c .loop-test .came))
-    (c .before .loop .inv)
+    record {
+      within = c .next-row2 .ensures .1;
+      known = stopped (c .before .before);
+      low = c .next-row2 .ensures .2;
+      unsure = c .next-row2 .ensures .3;
+      len = simp length-set (c .before .before .before .before .before .before .before .rows .inv .len);
+    }
 
 same-length : tie.Need-same-length Inv-loop μ-loop Inv-rows μ-rows
 same-length c = c .before .rows .inv .len
 
 returns : tie.Need-returns Inv-loop μ-loop Inv-rows μ-rows
-returns c = (searching-end _ _ _ (length-gates _ _) _ _ _ (c .before .rows .inv) (c .rows-test .left), c .before .rows .inv .known)
+returns c =
+    let end = c .rows-test .left in (
+      record {
+        within = omega (arith, count (c .before .before .before .before .before .before), c .before .rows .inv .within);
+        gate-i = λ l. absurd (omega (arith, count (c .before .before .before .before .before .before)));
+        clear = λ l. absurd (omega (arith, count (c .before .before .before .before .before .before)));
+        inside = λ l. absurd (omega (arith, count (c .before .before .before .before .before .before)));
+        fit = λ l. absurd (omega (arith, count (c .before .before .before .before .before .before)));
+      },
+      (c .before .rows .inv .known, c .before .rows .inv .low),
+    )
 
 same-length-2 : tie.Need-same-length-2 Inv-loop μ-loop Inv-rows μ-rows
 same-length-2 c = c .before .before .before .before .before .before .before .before .rows .inv .len
 
 returns-2 : tie.Need-returns-2 Inv-loop μ-loop Inv-rows μ-rows
 returns-2 c = (
-  searching-hit _ _ _ (length-gates _ _) _ _ _ (c .before .before .before .before .before .before .before .before .rows .inv) (c .before .before .before .before .before .before .before .rows-test .taken) (c .before .before .before .before .loop .inv) (c .before .before .before .loop-test .taken) (fits-is (c .before) ∙ c .if1 .taken),
-  c .before .before .before .before .before .before .before .before .rows .inv .known,
+  record {
+    within = omega (arith, row-inside (c .before .before .before .before .before .before .before));
+    gate-i = λ l. real (c .before .before .before .before .before .before .before);
+    clear = λ l. c .before .before .before .before .loop .inv;
+    inside = λ l. place-inside (c .before .before .before);
+    fit = λ l. fits-is (c .before) ∙ c .if1 .taken;
+  },
+  (c .before .before .before .before .before .before .before .before .rows .inv .known, c .before .before .before .before .before .before .before .before .rows .inv .low),
 )
 
 pub find-pair-spec : {M : Type 1} → statement M
@@ -148,20 +230,26 @@ find-pair-spec =
     μ-loop
     Inv-rows
     μ-rows
+    next-row-requires
     rows-holds
     read-gate-requires
     mul-j
     slice-read-j
+    cast-j
     loop-holds
     read-gate-requires-2
     fits-pair-requires
     may-change-requires
+    passed-run-requires
     add-j
     loop-less
     loop-again
+    cast-far
+    add-far
     mul-far
     slice-write-far
-    add-i
+    add-next-row
+    next-row-requires-2
     rows-less
     rows-again
     same-length

@@ -1,0 +1,206 @@
+-- The first pair of a list with gaps is the first pair of its gates: every gate passes a gap and fits none, so a row that is clear up to a place is
+-- clear up to the gates before that place; and the rule applied there is the rule applied to the gates. Assumes nothing.
+use mathlib.Core.Path.{_≡_, refl, sym, ap, ap₂, _∙_}
+use mathlib.Core.Logic.{⊎-elim}
+use mathlib.Core.Bool.{Bool, true, false, cond, not, _&&_}
+use mathlib.Core.List.{List}
+use Prim.Native.Nat.{ℕ, zero, suc, _+_, _-_, _%_, _<_, _≤_}
+use native.Mathlib.Omega.{arith}
+use lib.Dec.{eqb}
+use lib.ListN.{length, getD, set, length-set}
+use lib.Seq.{getD-set-other, set-comm}
+use borrow.Author.Tests.{ne-eqb}
+use Rattle.ranges.specs.Lists.{Each}
+use Rattle.ranges.proofs.Bools.{decide, clash}
+use Rattle.ranges.proofs.Lists.{each-at}
+use Rattle.ranges.proofs.Searches.{found, found-unique}
+use Rattle.digits.specs.Digits.{digit}
+use Rattle.gates.specs.declared.Gate.{Gate}
+use Rattle.gates.specs.Gates.{control, inverse, IsGate}
+use Rattle.tidying.specs.Places.{isC, upsets, blocks, clashes, mayChange}
+use Rattle.tidying.specs.Rules.{sameLines, cancels, merges, reduces, fits, loosened, retuned}
+use Rattle.tidying.specs.Tidying.{gate, firstJ, firstI, without, ruled}
+use Rattle.tidying.specs.Buffers.{gap, isGap, Stands, kept, rank}
+use Rattle.tidying.specs.Rows.{Quiet, Clear, Stops, Known, Low, PairAt}
+use Rattle.tidying.proofs.Gaps.{by-place, rank-all, rank-le, rank-mono, rank-rises, rank-lt, gate-kept, Standing, stands-at, rank-before, kept-set, kept-gone}
+use Rattle.tidying.proofs.Steps.{ruled-cancel, ruled-merge, ruled-reduce}
+use Rattle.tidying.proofs.Rows.{clear-next, row-gap, row, row-ends, row-stops, row-fits, row-hits}
+
+-- ---- a gate and a gap
+
+not-six : (t : ℕ) → t < 6 → eqb t 6 ≡ false
+not-six t lt = ne-eqb t 6 (λ e. omega arith)
+
+gap-free : (t : ℕ) → t < 6 → control gap t ≡ 3
+unfolding digit
+gap-free zero lt = refl
+gap-free (suc zero) lt = refl
+gap-free (suc (suc zero)) lt = refl
+gap-free (suc (suc (suc zero))) lt = refl
+gap-free (suc (suc (suc (suc zero)))) lt = refl
+gap-free (suc (suc (suc (suc (suc zero))))) lt = refl
+gap-free (suc (suc (suc (suc (suc (suc t)))))) lt = absurd (omega arith)
+
+pub gap-passed : (g : Gate) → IsGate 6 g → mayChange g gap ≡ true
+unfolding mayChange clashes blocks upsets isC
+gap-passed g ok = rw (not-six (g .target) (ok .on-line), gap-free (g .target) (ok .on-line)) (none (not (eqb (control g 6) 3)))
+  where
+    none : (x : Bool) → not (x && false) ≡ true
+    none true = refl
+    none false = refl
+
+pub gap-unfit : (g : Gate) → IsGate 6 g → fits g gap ≡ false
+unfolding fits cancels merges reduces sameLines
+gap-unfit g ok = rw (not-six (g .target) (ok .on-line)) refl
+
+-- ---- rows
+
+-- row r passes gate c and the gaps behind it, of which the numbers tell
+pub clear-run : (gs : List Gate) (far : List ℕ) (r c q : ℕ) → Each Stands gs → Known gs far → Clear gs r c → isGap (gate gs r) ≡ false → c < length gs
+    → fits (gate gs r) (gate gs c) ≡ false → mayChange (gate gs r) (gate gs c) ≡ true
+    → c + q ≤ length gs → ((k : ℕ) → 0 < k → k < q → getD far (c + k) 0 % 16384 ≡ 0) → Clear gs r (c + q)
+clear-run gs far r c q ok known w real lt unfit may le run =
+    record {
+      order = omega (arith, w .order);
+      inside = le;
+      quiet = λ l a b. by-place (Quiet (gate gs r) (gate gs l)) (c + 1) l (λ d. clear-next gs r c w lt unfit may .quiet l a d) (λ d. over l d b);
+    }
+  where
+    none : (l : ℕ) → c + 1 ≤ l → l < c + q → getD far l 0 % 16384 ≡ 0
+    none l d b = let e : c + (l - c) ≡ l = omega arith in rw e at (run (l - c) (omega arith) (omega arith))
+
+    over : (l : ℕ) → c + 1 ≤ l → l < c + q → Quiet (gate gs r) (gate gs l)
+    over l d b =
+        let is : gate gs l ≡ gap = each-at Stands gs (record { operator = 0; target = 0; controls = 0 }) ok l (omega arith) .blank (row-gap gs l _ (known .rows l (omega arith)) (none l d b)) in
+        let ok-r : IsGate 6 (gate gs r) = each-at Stands gs (record { operator = 0; target = 0; controls = 0 }) ok r (omega (arith, w .order)) .real real in
+        rw is (record { unfit = gap-unfit (gate gs r) ok-r; pass = gap-passed (gate gs r) ok-r })
+
+-- i, j is the first pair; i is the length where there is none
+pub record First (gs : List Gate) (i j : ℕ) : Type 0 where
+  pub row : i ≡ firstI gs
+  pub column : i < length gs → j ≡ firstJ gs i
+
+module _ (gs : List Gate) (ok : Each Stands gs) where
+  stand : (p : ℕ) → p < length gs → Stands (gate gs p)
+  stand p lt = each-at Stands gs _ ok p lt
+
+  -- a gate that a gate cannot pass, or that it fits, is no gap
+  shut-real : (r c : ℕ) → r < length gs → c < length gs → isGap (gate gs r) ≡ false → mayChange (gate gs r) (gate gs c) ≡ false → isGap (gate gs c) ≡ false
+  shut-real r c lr lc real e =
+      ⊎-elim
+      (λ (q : isGap (gate gs c) ≡ true).
+      clash (mayChange (gate gs r) (gate gs c)) (ap (mayChange (gate gs r)) (stand c lc .blank q) ∙ gap-passed (gate gs r) (stand r lr .real real)) e)
+      (λ (q : isGap (gate gs c) ≡ false). q) (decide (isGap (gate gs c)))
+
+  pub fits-real : (r c : ℕ) → r < length gs → c < length gs → isGap (gate gs r) ≡ false → fits (gate gs r) (gate gs c) ≡ true → isGap (gate gs c) ≡ false
+  fits-real r c lr lc real e =
+      ⊎-elim
+      (λ (q : isGap (gate gs c) ≡ true).
+      clash (fits (gate gs r) (gate gs c)) e (ap (fits (gate gs r)) (stand c lc .blank q) ∙ gap-unfit (gate gs r) (stand r lr .real real)))
+      (λ (q : isGap (gate gs c) ≡ false). q) (decide (isGap (gate gs c)))
+
+  module _ (r c : ℕ) (lr : r < length gs) (real : isGap (gate gs r) ≡ false) (w : Clear gs r c) where
+    clear-kept : Clear (kept gs) (rank gs r) (rank gs c)
+    clear-kept =
+        record {
+          order = rank-rises gs r c lr real (w .order);
+          inside = rank-le gs c;
+          quiet = λ x a b. at x a b (stands-at gs x (omega (arith, rank-le gs c)));
+        }
+      where
+        at : (x : ℕ) → rank gs r < x → x < rank gs c → Standing gs x → Quiet (gate (kept gs) (rank gs r)) (gate (kept gs) x)
+        at x a b s =
+            let here : rank gs (s .place) ≡ x = s .is in
+            let after : r < s .place = by-place (r < s .place) (r + 1) (s .place) (λ l. absurd (omega (arith, rank-mono gs (s .place) r (omega arith)))) (λ l. omega arith) in
+            let before : s .place < c = by-place (s .place < c) c (s .place) (λ l. l) (λ l. absurd (omega (arith, rank-mono gs c (s .place) l))) in
+            let q : Quiet (gate gs r) (gate gs (s .place)) = w .quiet (s .place) after before in
+            rw (← here, gate-kept gs r lr real, gate-kept gs (s .place) (s .inside) (s .real)) q
+
+    none-kept : Stops gs r c → row (kept gs) (rank gs r) ≡ false
+    none-kept stop =
+        by-place (row (kept gs) (rank gs r) ≡ false) (length gs) c
+        (λ l.
+        let there : isGap (gate gs c) ≡ false = shut-real r c lr l real (stop .shut l) in
+        row-stops (kept gs) (rank gs r) (rank gs c) clear-kept (rank-lt gs c l there)
+        (rw (gate-kept gs r lr real, gate-kept gs c l there) (stop .unfit l)) (rw (gate-kept gs r lr real, gate-kept gs c l there) (stop .shut l)))
+        (λ l. row-ends (kept gs) (rank gs r) (rank gs c) clear-kept (omega (arith, rank-all gs c l)))
+
+  -- no row before i has a pair
+  none-before : (s : List ℕ) (i : ℕ) → Known gs s → Low s i → (x : ℕ) → x < rank gs i → row (kept gs) x ≡ false
+  none-before s i k low x lt =
+      let w : Standing gs x = stands-at gs x (omega (arith, rank-le gs i)) in
+      let here : rank gs (w .place) ≡ x = w .is in
+      let before : w .place < i = by-place (w .place < i) i (w .place) (λ l. l) (λ l. absurd (omega (arith, rank-mono gs i (w .place) l))) in
+      let told = k .rows (w .place) (w .inside) in
+      rw (← here) (none-kept (w .place) _ (w .inside) (w .real) (told .clear (w .real)) (told .stops (w .real) (low (w .place) before)))
+
+  pub first-at : (s : List ℕ) (i j : ℕ) → Known gs s → Low s i → PairAt gs i j → First (kept gs) (rank gs i) (rank gs j)
+  unfolding firstI
+  first-at s i j k low w =
+      by-place (First (kept gs) (rank gs i) (rank gs j)) (length gs) i
+      (λ l.
+      let real = w .gate-i l in
+      let there : isGap (gate gs j) ≡ false = fits-real i j l (w .inside l) real (w .fit l) in
+      let fit : fits (gate (kept gs) (rank gs i)) (gate (kept gs) (rank gs j)) ≡ true =
+      rw (gate-kept gs i l real, gate-kept gs j (w .inside l) there) (w .fit l) in
+      let clear = clear-kept i j l real (w .clear l) in
+      record {
+        row = first-is (rank-le gs i) (λ q. row-hits (kept gs) (rank gs i) (rank gs j) clear (rank-lt gs j (w .inside l) there) fit);
+        column = λ q. sym (row-fits (kept gs) (rank gs i) (rank gs j) clear (rank-lt gs j (w .inside l) there) fit);
+      })
+      (λ l.
+      let end = rank-all gs i l in
+      record { row = first-is (rank-le gs i) (λ q. absurd (omega arith)); column = λ q. absurd (omega arith) })
+    where
+      first-is : rank gs i ≤ length (kept gs) → (rank gs i < length (kept gs) → row (kept gs) (rank gs i) ≡ true) → rank gs i ≡ firstI (kept gs)
+      first-is le hit =
+          found-unique (row (kept gs)) 0 (0 + length (kept gs)) (rank gs i) (firstI (kept gs))
+          (record { from = omega arith; within = omega arith; before = λ x a b. none-before s i k low x b; hit = λ q. hit (omega arith) })
+          (found (row (kept gs)) 0 (length (kept gs)))
+
+-- ---- the rule that fits the pair
+
+module _ (gs : List Gate) (ok : Each Stands gs) (i j : ℕ) (lt : i < length gs) (w : PairAt gs i j) where
+  real-j : isGap (gate gs j) ≡ false
+  real-j = fits-real gs ok i j lt (w .inside lt) (w .gate-i lt) (w .fit lt)
+
+  -- the two gates, in the list without gaps
+  first-is : gate (kept gs) (rank gs i) ≡ gate gs i
+  first-is = gate-kept gs i lt (w .gate-i lt)
+
+  second-is : gate (kept gs) (rank gs j) ≡ gate gs j
+  second-is = gate-kept gs j (w .inside lt) real-j
+
+  module _ (g h : Gate) where
+    there : i < length (set gs j h)
+    there = rw (length-set gs j h) lt
+
+    still : isGap (gate (set gs j h) i) ≡ false
+    still = rw (getD-set-other gs j i h (record { operator = 0; target = 0; controls = 0 }) (omega (arith, w .clear lt .order))) (w .gate-i lt)
+
+    ranked : rank (set gs j h) i ≡ rank gs i
+    ranked = rank-before gs j i h (omega (arith, w .clear lt .order))
+
+    pub ruled-none : cancels (gate gs i) (gate gs j) ≡ true → isGap g ≡ true → isGap h ≡ true
+        → kept (set (set gs j h) i g) ≡ ruled (kept gs) (rank gs i) (rank gs j)
+    ruled-none c e f =
+        kept-gone (set gs j h) i g there still e
+        ∙ ap₂ without (kept-gone gs j h (w .inside lt) real-j f) ranked
+        ∙ sym (ruled-cancel (kept gs) (rank gs i) (rank gs j) (rw (first-is, second-is) c))
+
+    pub ruled-one : cancels (gate gs i) (gate gs j) ≡ false → merges (gate gs i) (gate gs j) ≡ true → isGap g ≡ true → isGap h ≡ false → h ≡ inverse (gate gs j)
+        → kept (set (set gs j h) i g) ≡ ruled (kept gs) (rank gs i) (rank gs j)
+    ruled-one c d e f is =
+        kept-gone (set gs j h) i g there still e
+        ∙ ap₂ without (kept-set gs j h (w .inside lt) real-j f ∙ ap (set (kept gs) (rank gs j)) (is ∙ ap inverse (sym second-is))) ranked
+        ∙ sym (ruled-merge (kept gs) (rank gs i) (rank gs j) (rw (first-is, second-is) c) (rw (first-is, second-is) d))
+
+    pub ruled-two : cancels (gate gs i) (gate gs j) ≡ false → merges (gate gs i) (gate gs j) ≡ false → isGap g ≡ false → isGap h ≡ false
+        → g ≡ loosened (gate gs i) (gate gs j) → h ≡ retuned (gate gs i) (gate gs j) → kept (set (set gs j h) i g) ≡ ruled (kept gs) (rank gs i) (rank gs j)
+    ruled-two c d e f ig ih =
+        kept-set (set gs j h) i g there still e
+        ∙ ap (λ (x : ℕ). set (kept (set gs j h)) x g) ranked
+        ∙ ap (λ (l : List Gate). set l (rank gs i) g) (kept-set gs j h (w .inside lt) real-j f)
+        ∙ set-comm (kept gs) (rank gs j) (rank gs i) h g (omega (arith, rank-rises gs i j lt (w .gate-i lt) (w .clear lt .order)))
+        ∙ ap₂ (λ (x : Gate) (y : Gate). set (set (kept gs) (rank gs i) x) (rank gs j) y) (ig ∙ sym (ap₂ loosened first-is second-is)) (ih ∙ sym (ap₂ retuned first-is second-is))
+        ∙ sym (ruled-reduce (kept gs) (rank gs i) (rank gs j) (rw (first-is, second-is) c) (rw (first-is, second-is) d))
