@@ -1,11 +1,15 @@
-//! Links the proved library as `rt staticlib exports` leaves it.
+//! Links the proved library: the archive that `rt staticlib exports` leaves in
+//! target/staticlib, or the one in the folder that TILES_LIBRARY names.
 
-use std::path::Path;
+use std::path::{Path, PathBuf};
 use std::process::exit;
 
 fn main() {
-    let root = Path::new(env!("CARGO_MANIFEST_DIR")).join("..");
-    let folder = root.join("target").join("staticlib");
+    println!("cargo:rerun-if-env-changed=TILES_LIBRARY");
+    let folder = match std::env::var_os("TILES_LIBRARY") {
+        Some(named) if !named.is_empty() => PathBuf::from(named),
+        _ => Path::new(env!("CARGO_MANIFEST_DIR")).join("../target/staticlib"),
+    };
     let archive = folder.join("libexports.a");
     println!("cargo:rerun-if-changed={}", archive.display());
     if !archive.is_file() {

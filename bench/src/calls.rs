@@ -1,0 +1,254 @@
+//! Every call, timed on both sides.
+
+use std::cell::Cell;
+use std::time::Duration;
+
+use second::answer::Answer;
+use second::calls::Told;
+use second::file::Reader;
+use second::gate::RECORD;
+use second::{cascade, choice, file, listing, sheet, synthesis, table, tidying};
+
+use crate::clock::{race, race_changing, Times};
+use crate::inputs::{bound, file_of, patterns, table_file};
+use crate::proved::Library;
+
+const LIBRARY: Library = Library { null_if_empty: false };
+
+/// The bytes of the longest listing.
+const LONGEST_LISTING: usize = 248_031;
+
+/// Times calls. Each answer has the proved side's times first.
+pub struct Timer {
+    pub patience: Duration,
+}
+
+impl Timer {
+    /// The tables take turns.
+    pub fn check_table(&self, lines: u8, tables: &[Vec<u16>]) -> [Times; 2] {
+        let (ours, theirs) = (Turns::of(tables), Turns::of(tables));
+        race(
+            self.patience,
+            (),
+            |_| proved(LIBRARY.check_table(lines, ours.next())),
+            |_| {
+                second(table::check_table(lines, theirs.next()));
+                0
+            },
+        )
+    }
+
+    /// The tables take turns.
+    pub fn synthesize(&self, lines: u8, tables: &[Vec<u16>]) -> [Times; 2] {
+        let (ours, theirs) = (Turns::of(tables), Turns::of(tables));
+        race(
+            self.patience,
+            vec![0; RECORD * bound(lines)],
+            |room| proved(LIBRARY.synthesize(lines, ours.next(), room)),
+            |room| second(synthesis::synthesize(lines, theirs.next(), room)) as u64,
+        )
+    }
+
+    /// All tables, which stand one behind the other, in one go.
+    pub fn synthesize_all(&self, lines: u8, tables: &[u16]) -> [Times; 2] {
+        let tables = || tables.chunks(patterns(lines));
+        race(
+            self.patience,
+            vec![0; RECORD * bound(lines)],
+            |room| tables().map(|table| proved(LIBRARY.synthesize(lines, table, room))).sum(),
+            |room| {
+                let gates = tables().map(|table| second(synthesis::synthesize(lines, table, room)));
+                gates.sum::<usize>() as u64
+            },
+        )
+    }
+
+    pub fn check_cascade(&self, lines: u8, cascade: &[u8]) -> [Times; 2] {
+        race(
+            self.patience,
+            (),
+            |_| proved(LIBRARY.check_cascade(lines, cascade)),
+            |_| second(cascade::check(lines, cascade)) as u64,
+        )
+    }
+
+    /// On one pattern a call; all take turns.
+    pub fn run(&self, lines: u8, cascade: &[u8]) -> [Times; 2] {
+        let all: Vec<u16> = (0..patterns(lines) as u16).collect();
+        let (ours, theirs) = (Turns::of(&all), Turns::of(&all));
+        race(
+            self.patience,
+            (),
+            |_| proved(LIBRARY.run(lines, cascade, *ours.next())),
+            |_| second(cascade::run(lines, cascade, *theirs.next())) as u64,
+        )
+    }
+
+    pub fn tabulate(&self, lines: u8, cascade: &[u8]) -> [Times; 2] {
+        race(
+            self.patience,
+            vec![0; patterns(lines)],
+            |room| proved(LIBRARY.tabulate(lines, cascade, room)),
+            |room| second(cascade::tabulate(lines, cascade, room)) as u64,
+        )
+    }
+
+    pub fn invert(&self, lines: u8, cascade: &[u8]) -> [Times; 2] {
+        race(
+            self.patience,
+            vec![0; cascade.len()],
+            |room| proved(LIBRARY.invert(lines, cascade, room)),
+            |room| second(cascade::invert(lines, cascade, room)) as u64,
+        )
+    }
+
+    pub fn price(&self, lines: u8, cascade: &[u8]) -> [Times; 2] {
+        race(
+            self.patience,
+            (),
+            |_| proved(LIBRARY.price(lines, 2, cascade)),
+            |_| second(cascade::price(lines, 2, cascade)) as u64,
+        )
+    }
+
+    pub fn choose(&self, lines: u8, [one, other]: &[Vec<u8>; 2]) -> [Times; 2] {
+        race(
+            self.patience,
+            (),
+            |_| proved(LIBRARY.choose(lines, 2, one, other)),
+            |_| second(choice::choose(lines, 2, one, other)) as u64,
+        )
+    }
+
+    pub fn write_file(&self, lines: u8, cascade: &[u8], note: &[u8]) -> [Times; 2] {
+        race(
+            self.patience,
+            file_of(lines, cascade, note),
+            |room| proved(LIBRARY.write_file(lines, cascade, note, room)),
+            |room| second(file::write_file(lines, cascade, note, room)) as u64,
+        )
+    }
+
+    pub fn read_file(&self, file: &[u8]) -> [Times; 2] {
+        race(
+            self.patience,
+            (vec![0; file.len()], vec![0; file.len()]),
+            |(records, note)| {
+                let told = LIBRARY.read_file(file, records, note);
+                proved(told) + told.second + told.third
+            },
+            |(records, note)| {
+                let found = second(file::read_file(file, records, note));
+                found.lines as u64 + found.gates as u64 + found.note as u64
+            },
+        )
+    }
+
+    pub fn opening(&self, file: &[u8]) -> [Times; 2] {
+        race(
+            self.patience,
+            (),
+            |_| proved(LIBRARY.opening(file)),
+            |_| second(file::opening(file)).lines as u64,
+        )
+    }
+
+    /// Opening, then gate by gate to the end. The second program uses its reader.
+    pub fn read_gates(&self, file: &[u8]) -> [Times; 2] {
+        race(
+            self.patience,
+            (),
+            |_| {
+                let opening = LIBRARY.opening(file);
+                let (lines, end) = (proved(opening) as u8, opening.third as usize);
+                let mut place = opening.second as usize;
+                let mut sum = 0;
+                loop {
+                    let turn = LIBRARY.next(file, lines, place, end);
+                    if proved(turn) == 0 {
+                        return sum;
+                    }
+                    sum += turn.third;
+                    place = turn.second as usize;
+                }
+            },
+            |_| {
+                let mut reader = Reader::open(file);
+                let mut sum = 0;
+                while let Some(gate) = second(reader.next()) {
+                    let operator = gate.operator().number() as u64;
+                    let controls = gate.packed_controls() as u64;
+                    sum += operator + 256 * gate.target() as u64 + 65_536 * controls;
+                }
+                sum
+            },
+        )
+    }
+
+    pub fn listing(&self, lines: u8, cascade: &[u8]) -> [Times; 2] {
+        race(
+            self.patience,
+            vec![0; LONGEST_LISTING],
+            |room| proved(LIBRARY.listing(lines, cascade, room)),
+            |room| second(listing::listing(lines, cascade, room)) as u64,
+        )
+    }
+
+    pub fn sheet(&self, lines: u8, table: &[u16]) -> [Times; 2] {
+        let file = table_file(lines, table);
+        race(
+            self.patience,
+            vec![0; LONGEST_LISTING],
+            |room| proved(LIBRARY.sheet(&file, room)),
+            |room| second(sheet::sheet(&file, room)) as u64,
+        )
+    }
+
+    pub fn tidy(&self, lines: u8, cascade: &[u8]) -> [Times; 2] {
+        race_changing(
+            self.patience,
+            cascade,
+            |cascade| {
+                let told = LIBRARY.tidy(lines, cascade);
+                proved(told) << 32 | told.second
+            },
+            |cascade| {
+                let tidied = second(tidying::tidy(lines, cascade));
+                (tidied.gates as u64) << 32 | tidied.steps as u64
+            },
+        )
+    }
+}
+
+/// Tidies by the proved library.
+pub fn tidy(lines: u8, cascade: &mut [u8]) {
+    proved(LIBRARY.tidy(lines, cascade));
+}
+
+/// The first value of an accepted answer. All calls here are accepted.
+fn proved(told: Told) -> u64 {
+    assert_eq!(told.number, 0, "refused");
+    told.first
+}
+
+fn second<T>(answer: Answer<T>) -> T {
+    answer.unwrap_or_else(|refusal| panic!("refused: {refusal:?}"))
+}
+
+/// Things that take turns, so that no call can know by heart what comes.
+struct Turns<'a, T> {
+    things: &'a [T],
+    next: Cell<usize>,
+}
+
+impl<'a, T> Turns<'a, T> {
+    fn of(things: &'a [T]) -> Turns<'a, T> {
+        Turns { things, next: Cell::new(0) }
+    }
+
+    fn next(&self) -> &'a T {
+        let place = self.next.get();
+        self.next.set((place + 1) % self.things.len());
+        &self.things[place]
+    }
+}

@@ -1,0 +1,89 @@
+//! Times the proved library beside the second program.
+//!
+//!     bench [WORD]
+//!
+//! prints a line for each call and input, both sides on the same input in one run:
+//! the median and the least time of a call and the ratio of the medians, with a
+//! star where the ratio is above the aim; then how times grow with gates and with
+//! lines; then how long the program `tiles` takes. With a WORD, only the lines of
+//! the first table that have it in their name.
+//!
+//!     bench worst SECONDS [SEED] [GATES]
+//!
+//! searches for cascades that take the proved library long to tidy.
+
+#![deny(unsafe_code)]
+
+mod calls;
+mod clock;
+mod families;
+mod growth;
+mod inputs;
+// These two are compare's: numbers from a seed, and the library's C functions.
+#[allow(dead_code)]
+#[path = "../../compare/src/numbers.rs"]
+mod numbers;
+mod program;
+#[allow(dead_code)]
+#[path = "../../compare/src/proved.rs"]
+mod proved;
+mod report;
+mod rows;
+mod worst;
+
+use std::path::Path;
+use std::process::ExitCode;
+use std::time::Duration;
+
+use calls::Timer;
+use inputs::MOST_GATES;
+use report::Report;
+
+fn main() -> ExitCode {
+    let arguments: Vec<String> = std::env::args().skip(1).collect();
+    let words: Vec<&str> = arguments.iter().map(String::as_str).collect();
+    match words.as_slice() {
+        [] => print_all(),
+        ["worst", numbers @ ..] => return search(numbers),
+        [word] => print_rows(word),
+        _ => return usage(),
+    }
+    ExitCode::SUCCESS
+}
+
+fn usage() -> ExitCode {
+    eprintln!("use: bench [WORD]");
+    eprintln!("     bench worst SECONDS [SEED] [GATES]");
+    ExitCode::from(2)
+}
+
+fn print_all() {
+    println!(
+        "Times of a call. Rooms are filled once and not cleared between calls; tidying, which"
+    );
+    println!(
+        "changes what it reads, gets a new copy for each call, outside the clock. The size is"
+    );
+    println!("entries of a table, gates of a cascade, or tables.\n");
+    print_rows("");
+    growth::print(&Timer { patience: Duration::from_millis(60) });
+    program::print(&Path::new(env!("CARGO_MANIFEST_DIR")).join(".."));
+}
+
+fn print_rows(word: &str) {
+    let mut report = Report::new(word, Timer { patience: Duration::from_millis(300) });
+    rows::print(&mut report);
+    report.end();
+}
+
+fn search(arguments: &[&str]) -> ExitCode {
+    let numbers: Result<Vec<u64>, _> = arguments.iter().map(|word| word.parse()).collect();
+    let (seconds, seed, gates) = match numbers.as_deref() {
+        Ok([seconds]) => (*seconds, 1, MOST_GATES),
+        Ok([seconds, seed]) => (*seconds, *seed, MOST_GATES),
+        Ok([seconds, seed, gates]) => (*seconds, *seed, *gates as usize),
+        _ => return usage(),
+    };
+    worst::search(Duration::from_secs(seconds), seed, gates.min(MOST_GATES));
+    ExitCode::SUCCESS
+}

@@ -1,0 +1,118 @@
+//! What is timed on what.
+
+use second::cases::hardest;
+use second::draws::Draws;
+use second::file::LONGEST_NOTE;
+use second::gate::RECORD;
+
+use crate::families::hard;
+use crate::inputs::{
+    alike, all_tables, bare_cascade, counter, drawn_cascade, drawn_tables, file_of, identity,
+    patterns, synthesized, there_and_back, MOST_GATES,
+};
+use crate::report::{Report, What};
+
+const AIM: f64 = 1.0;
+const SYNTHESIS_AIM: f64 = 1.2;
+
+pub fn print(report: &mut Report) {
+    synthesis(report);
+    tables(report);
+    cascades(report);
+    files(report);
+    texts(report);
+    tidying(report);
+}
+
+fn synthesis(report: &mut Report) {
+    for lines in 1..=6 {
+        let mut line = |call, tables: &[Vec<u16>]| {
+            let what = What { call, lines, size: patterns(lines), aim: SYNTHESIS_AIM };
+            report.line(what, |timer| timer.synthesize(lines, tables));
+        };
+        line("synthesize, drawn tables in turn", &drawn_tables(lines, 50));
+        line("synthesize, the identity", &[identity(lines)]);
+        line("synthesize, the door counter", &[counter(lines)]);
+        line("synthesize, a table that reaches the bound", &[hardest(lines)]);
+    }
+    let all = all_tables(patterns(2) as u16);
+    let call = "synthesize, all two-line tables in one go";
+    let what = What { call, lines: 2, size: all.len() / patterns(2), aim: SYNTHESIS_AIM };
+    report.line(what, |timer| timer.synthesize_all(2, &all));
+}
+
+fn tables(report: &mut Report) {
+    for lines in 1..=6 {
+        let tables = drawn_tables(lines, 50);
+        let call = "check_table, drawn tables in turn";
+        let what = What { call, lines, size: patterns(lines), aim: AIM };
+        report.line(what, |timer| timer.check_table(lines, &tables));
+    }
+}
+
+/// A call on a cascade on six lines.
+fn on<'a>(call: &'a str, cascade: &[u8]) -> What<'a> {
+    What { call, lines: 6, size: cascade.len() / RECORD, aim: AIM }
+}
+
+fn cascades(report: &mut Report) {
+    let drawn = &drawn_cascade(6, MOST_GATES);
+    let bare = &bare_cascade(6, MOST_GATES);
+    let found = &synthesized(6, &drawn_tables(6, 1)[0]);
+    let pair = &alike(6, MOST_GATES);
+    report.line(on("check_cascade, drawn gates", drawn), |timer| timer.check_cascade(6, drawn));
+    report.line(on("run, drawn gates, patterns in turn", drawn), |timer| timer.run(6, drawn));
+    report.line(on("run, a synthesized cascade, patterns in turn", found), |timer| {
+        timer.run(6, found)
+    });
+    report.line(on("tabulate, drawn gates", drawn), |timer| timer.tabulate(6, drawn));
+    report.line(on("tabulate, a synthesized cascade", found), |timer| timer.tabulate(6, found));
+    report.line(on("tabulate, gates with no controls", bare), |timer| timer.tabulate(6, bare));
+    report.line(on("price, drawn gates", drawn), |timer| timer.price(6, drawn));
+    report.line(on("invert, drawn gates", drawn), |timer| timer.invert(6, drawn));
+    report.line(on("choose, two with the same table", &pair[0]), |timer| timer.choose(6, pair));
+}
+
+fn files(report: &mut Report) {
+    let drawn = &drawn_cascade(6, MOST_GATES);
+    let note = &[b'-'; LONGEST_NOTE];
+    let file = &file_of(6, drawn, note);
+    report.line(on("write_file, the longest", drawn), |timer| timer.write_file(6, drawn, note));
+    report.line(on("read_file, the longest", drawn), |timer| timer.read_file(file));
+    report.line(on("opening, the longest", drawn), |timer| timer.opening(file));
+    report.line(on("opening and next, gate by gate", drawn), |timer| timer.read_gates(file));
+}
+
+fn texts(report: &mut Report) {
+    let drawn = &drawn_cascade(6, MOST_GATES);
+    let table = &drawn_tables(6, 1)[0];
+    let found = &synthesized(6, table);
+    let hardest = &hardest(6);
+    report.line(on("listing, drawn gates", drawn), |timer| timer.listing(6, drawn));
+    report.line(on("listing, a synthesized cascade", found), |timer| timer.listing(6, found));
+    let on_table = |call| What { call, lines: 6, size: patterns(6), aim: AIM };
+    report.line(on_table("sheet, a drawn table"), |timer| timer.sheet(6, table));
+    report.line(on_table("sheet, a table that reaches the bound"), |timer| timer.sheet(6, hardest));
+}
+
+fn tidying(report: &mut Report) {
+    let mut line = |call: &str, lines, cascade: &[u8]| {
+        let what = What { lines, ..on(call, cascade) };
+        report.line(what, |timer| timer.tidy(lines, cascade));
+    };
+    for lines in 3..=6 {
+        let found = synthesized(lines, &drawn_tables(lines, 1)[0]);
+        line("tidy, a synthesized cascade", lines, &found);
+    }
+    line("tidy, drawn gates", 6, &drawn_cascade(6, MOST_GATES));
+    let mut draws = Draws::from_seed(1);
+    for (lines, kinds) in [(2, 3), (3, 8), (4, 20), (6, 60)] {
+        let dense = draws.dense_cascade(lines as usize, MOST_GATES, kinds);
+        line(&format!("tidy, {kinds} kinds of gates"), lines, &dense);
+    }
+    line("tidy, equal gates", 6, &[1, 0, 3, 3, 3, 3, 3, 3].repeat(MOST_GATES));
+    line("tidy, there and back", 6, &there_and_back(6, MOST_GATES));
+    for (name, recipe) in hard() {
+        line(&format!("tidy, {name}"), 6, &recipe.cascade(MOST_GATES));
+    }
+}
