@@ -1,9 +1,9 @@
 //! Cascades: checking, running, inverting and pricing them.
 
 use crate::answer::{Answer, Refusal};
-use crate::gate::{Gate, RECORD};
-use crate::pattern::{Digits, Lines};
-use crate::planes;
+use crate::gate::{faults, Gate, CONTROLS, NO_CONTROL, RECORD};
+use crate::pattern::{Digits, Lines, MOST_LINES};
+use crate::{planes, standing};
 
 /// The most gates of a cascade.
 pub const MOST_GATES: usize = 8_000;
@@ -37,7 +37,7 @@ pub fn tabulate(lines: u8, cascade: &[u8], room: &mut [u16]) -> Answer<usize> {
     let Some(room) = room.get_mut(..entries) else {
         return Err(Refusal::room_too_small(entries));
     };
-    planes::tabulate(cascade, room);
+    cascade.tabulate(room);
     Ok(entries)
 }
 
@@ -76,10 +76,16 @@ impl<'a> Cascade<'a> {
         if !odd_bytes.is_empty() || records.len() > MOST_GATES {
             return Err(Refusal::cascade_length());
         }
-        match records.iter().position(|&record| Gate::read(lines, record).is_none()) {
-            Some(place) => Err(Refusal::not_a_gate(place)),
-            None => Ok(Cascade { lines, records }),
+        if records.iter().fold(0, |all, &record| all | faults(lines, record)) != 0 {
+            let place = records.iter().position(|&record| faults(lines, record) != 0);
+            return Err(Refusal::not_a_gate(place.unwrap_or(0)));
         }
+        Ok(Cascade { lines, records })
+    }
+
+    /// The records that synthesis has made.
+    pub(crate) fn of_found(lines: Lines, records: &'a [[u8; RECORD]]) -> Cascade<'a> {
+        Cascade { lines, records }
     }
 
     pub fn lines(self) -> Lines {
@@ -97,6 +103,18 @@ impl<'a> Cascade<'a> {
     /// The gates, first to last.
     pub fn gates(self) -> impl DoubleEndedIterator<Item = Gate> + ExactSizeIterator + 'a {
         self.records.iter().map(|&record| Gate::of_checked(record))
+    }
+
+    /// Writes what the cascade computes into a room of exactly 3^n entries.
+    pub(crate) fn tabulate(self, entries: &mut [u16]) {
+        // A row on which a gate acts takes as long as two words of planes. Where
+        // planes have so few words, asking would take as long.
+        let words = planes::words(self.lines);
+        if words > 2 && 2 * standing::mean_rows(self) <= words {
+            standing::tabulate(self, entries);
+        } else {
+            planes::tabulate(self, entries);
+        }
     }
 
     pub fn cost(self, value: GlobalValue) -> u32 {
@@ -123,21 +141,38 @@ impl GlobalValue {
 }
 
 fn gate_cost(gate: Gate, value: GlobalValue) -> u32 {
-    let (controls, at_value) = gate.count_controls(value.0);
-    BASE_COST[controls] + 2 * (controls - at_value) as u32
+    COST[value.0 as usize][gate.packed_controls() as usize] as u32
 }
 
-/// Looked up by the number of controls. A gate has at most five; the two last
-/// places only make every index of three bits a good one.
-const BASE_COST: [u32; 8] = {
-    let mut costs = [0; 8];
-    let mut controls = 0;
-    while controls < costs.len() {
-        costs[controls] = base_cost(controls);
-        controls += 1;
+/// The cost of a gate under each global value, by its packed controls.
+static COST: [[u8; CONTROLS]; 3] = {
+    let mut costs = [[0; CONTROLS]; 3];
+    let mut value = 0;
+    while value < costs.len() {
+        let mut controls = 0;
+        while controls < CONTROLS {
+            costs[value][controls] = controls_cost(controls, value) as u8;
+            controls += 1;
+        }
+        value += 1;
     }
     costs
 };
+
+/// Each control that asks for another value than the global one adds 2.
+const fn controls_cost(packed: usize, value: usize) -> u32 {
+    let (mut count, mut others) = (0, 0);
+    let mut line = 0;
+    while line < MOST_LINES {
+        let control = packed >> (2 * line) & 3;
+        if control != NO_CONTROL as usize {
+            count += 1;
+            others += (control != value) as u32;
+        }
+        line += 1;
+    }
+    base_cost(count) + 2 * others
+}
 
 /// From three controls on, five more than twice the cost with one fewer.
 const fn base_cost(controls: usize) -> u32 {

@@ -228,7 +228,7 @@ fn tables() -> Vec<Case> {
 /// A table whose cascade has as many gates as the bound allows. When row i's turn
 /// comes, its entry is i or more, so that the leading digits 2 of i are in place;
 /// here all others differ, the highest of them by being larger.
-fn hardest(lines: u8) -> Vec<u16> {
+pub fn hardest(lines: u8) -> Vec<u16> {
     let digit = |pattern: usize, line: u8| pattern / size(line) % 3;
     let mut table = identity(lines);
     // What the procedure does, backward: the last row first, and in each row the

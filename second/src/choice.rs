@@ -2,8 +2,7 @@
 
 use crate::answer::{Answer, Refusal};
 use crate::cascade::{Cascade, GlobalValue};
-use crate::pattern::Lines;
-use crate::planes;
+use crate::pattern::{Lines, MOST_PATTERNS};
 
 /// The answers of [`choose`].
 pub const FIRST: u8 = 1;
@@ -27,9 +26,19 @@ pub fn choose(lines: u8, value: u8, first: &[u8], second: &[u8]) -> Answer<u8> {
     let value = GlobalValue::check(value)?;
     let first = Cascade::check(lines, first)?;
     let second = Cascade::check(lines, second)?;
-    if let Some(input) = planes::first_difference(first, second) {
+    if let Some(input) = first_difference(first, second) {
         return Err(Refusal::different_tables(input));
     }
     let worth = |cascade: Cascade| (cascade.cost(value), cascade.len());
     Ok(if worth(second) < worth(first) { SECOND } else { FIRST })
+}
+
+/// The first input on which two cascades on the same lines differ.
+fn first_difference(one: Cascade, other: Cascade) -> Option<usize> {
+    let (mut ones, mut others) = ([0; MOST_PATTERNS], [0; MOST_PATTERNS]);
+    let entries = ..one.lines().patterns();
+    one.tabulate(&mut ones[entries]);
+    other.tabulate(&mut others[entries]);
+    (ones != others)
+        .then(|| ones.iter().zip(&others).take_while(|(one, other)| one == other).count())
 }

@@ -111,6 +111,7 @@ pub fn opening(file: &[u8]) -> Answer<Opening> {
 
 /// The gate at a byte offset of a file, if a whole record stands there before
 /// `end` and before the file's end. Refusals 1, 7; here 7 carries the offset.
+#[inline]
 pub fn next(file: &[u8], lines: u8, place: usize, end: usize) -> Answer<Option<Gate>> {
     let lines = Lines::check(lines)?;
     let before_end = &file[..end.min(file.len())];
@@ -148,6 +149,7 @@ impl<'a> Reader<'a> {
     /// The next gate, or `None` at the end. Refusals 1, 7. The reader moves on
     /// only past a gate that it hands out.
     #[allow(clippy::should_implement_trait)]
+    #[inline]
     pub fn next(&mut self) -> Answer<Option<Gate>> {
         let gate = next(self.file, self.lines, self.place, self.end)?;
         if gate.is_some() {

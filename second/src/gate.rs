@@ -36,11 +36,12 @@ impl Operator {
         Operator::ALL.into_iter().find(|&operator| operator.number() == number)
     }
 
+    #[inline]
     pub fn number(self) -> u8 {
         self as u8
     }
 
-    pub fn name(self) -> &'static str {
+    pub const fn name(self) -> &'static str {
         match self {
             Operator::C1 => "C1",
             Operator::C2 => "C2",
@@ -86,6 +87,9 @@ pub const NO_CONTROL: u8 = 3;
 const ONE_EACH: u64 = 0x0101_0101_0101;
 const THREE_EACH: u64 = 3 * ONE_EACH;
 
+/// The ways to choose a control byte for each line.
+pub(crate) const CONTROLS: usize = 1 << (2 * MOST_LINES);
+
 /// A gate: its record, read as one little-endian number.
 ///
 /// Since each gate has one record and only [`Gate::read`] lets records in, the
@@ -96,40 +100,28 @@ pub struct Gate(u64);
 
 impl Gate {
     /// The gate that a record says, if it says one on so many lines.
+    #[inline]
     pub fn read(lines: Lines, record: [u8; RECORD]) -> Option<Gate> {
-        let [operator, target, ..] = record;
-        let known = (1..=5).contains(&operator) && (target as usize) < lines.count();
-        if !known {
-            return None;
-        }
-        let gate = Gate(u64::from_le_bytes(record));
-        let bare = bare_bytes(lines, target as usize);
-        let values_in_range = gate.controls() & !THREE_EACH == 0;
-        let bare_where_due = gate.controls() & bare == bare;
-        (values_in_range && bare_where_due).then_some(gate)
+        (faults(lines, record) == 0).then_some(Gate::of_checked(record))
     }
 
     /// For records that `read` has accepted before.
+    #[inline]
     pub(crate) fn of_checked(record: [u8; RECORD]) -> Gate {
         Gate(u64::from_le_bytes(record))
     }
 
-    /// The gate of an operator that a line undergoes if all other lines of the
-    /// board hold these digits.
-    pub(crate) fn fully_controlled(
-        lines: Lines,
-        operator: Operator,
-        target: usize,
-        others: Digits,
-    ) -> Gate {
-        let controls = others.0 | bare_bytes(lines, target);
-        Gate(controls << 16 | (target as u64) << 8 | operator.number() as u64)
+    /// The gate with such a head that acts if all other lines of the board hold
+    /// these digits.
+    pub(crate) fn fully_controlled(lines: Lines, head: Head, others: Digits) -> Gate {
+        Gate(head.0 | (others.0 | beyond(lines.count())) << 16)
     }
 
     pub fn record(self) -> [u8; RECORD] {
         self.0.to_le_bytes()
     }
 
+    #[inline]
     pub fn operator(self) -> Operator {
         match self.0 as u8 {
             1 => Operator::C1,
@@ -140,6 +132,7 @@ impl Gate {
         }
     }
 
+    #[inline]
     pub fn target(self) -> usize {
         (self.0 >> 8) as u8 as usize
     }
@@ -156,12 +149,18 @@ impl Gate {
     }
 
     /// The control bytes as six base-4 digits, x0 with weight 1.
+    #[inline]
     pub fn packed_controls(self) -> u16 {
-        (0..MOST_LINES).map(|line| (self.control_byte(line) as u16) << (2 * line)).sum()
+        // First two and two, then the product brings the three pairs together.
+        let pairs = (self.controls() | self.controls() >> 6) & 0x000f_000f_000f;
+        ((pairs * 0x0100_1001) >> 24) as u16 % CONTROLS as u16
     }
 
     pub fn inverse(self) -> Gate {
-        self.with_operator(self.operator().inverse())
+        // C1 and C2, and no others, have one of the two low bits and not the
+        // third. Each is the other with both of these turned over.
+        let is_c = (self.0 ^ self.0 >> 1) & !(self.0 >> 2) & 1;
+        Gate(self.0 ^ (3 * is_c))
     }
 
     /// Does every control line hold its value?
@@ -180,10 +179,15 @@ impl Gate {
         Digits(digits.0 ^ ((before ^ after) as u64) << place)
     }
 
-    /// How many controls there are, and how many of them ask for a value.
-    pub(crate) fn count_controls(self, value: u8) -> (usize, usize) {
-        let other = self.controls() ^ (value as u64 * ONE_EACH);
-        (count(self.controlled()), MOST_LINES - count(nonzero_bytes(other)))
+    pub(crate) fn control_count(self) -> usize {
+        // The product gathers the sum of the bytes, which are 0 or 1, in the sixth.
+        (self.controlled().wrapping_mul(ONE_EACH) >> 40) as usize & 7
+    }
+
+    /// The lines that are controls, a bit each.
+    pub(crate) fn control_lines(self) -> usize {
+        // Seven less for each further byte brings the bits side by side.
+        (self.controlled().wrapping_mul(0x0008_1020_4081) >> 35) as usize & 0x3f
     }
 
     /// The six control bytes.
@@ -196,13 +200,19 @@ impl Gate {
         nonzero_bytes(self.controls() ^ THREE_EACH)
     }
 
-    pub(crate) fn with_operator(self, operator: Operator) -> Gate {
-        Gate(self.0 & !0xff | operator.number() as u64)
-    }
-
     pub(crate) fn with_control_byte(self, line: usize, value: u8) -> Gate {
         let place = 16 + 8 * line;
         Gate(self.0 & !(0xff << place) | (value as u64) << place)
+    }
+}
+
+/// What a record says of operator and target; the other control bytes are 0.
+#[derive(Clone, Copy)]
+pub(crate) struct Head(u64);
+
+impl Head {
+    pub(crate) const fn of(operator: Operator, target: usize) -> Head {
+        Head((NO_CONTROL as u64) << (16 + 8 * target) | (target as u64) << 8 | operator as u64)
     }
 }
 
@@ -218,19 +228,51 @@ impl std::fmt::Debug for Gate {
     }
 }
 
+/// Not 0 if a record is no gate on so many lines. The faults of many records, put
+/// together bit by bit, tell whether all are gates without a branch for any.
+#[inline]
+pub(crate) fn faults(lines: Lines, record: [u8; RECORD]) -> u64 {
+    let record = u64::from_le_bytes(record);
+    let asked = ASKED[lines.count() - 1][(record & 7 | record >> 5 & 0o70) as usize];
+    record & NEVER | asked & !record
+}
+
+/// The bits that no gate's record has: operators and targets are below 8.
+const NEVER: u64 = !(THREE_EACH << 16 | 0x0707);
+
+/// The bits that a record must have, by the lines (from 1), the target and the
+/// operator: 3 in the bytes that must say "none". Where there is no such operator
+/// or target, all bits.
+static ASKED: [[u64; 64]; MOST_LINES] = {
+    let mut asked = [[u64::MAX; 64]; MOST_LINES];
+    let mut lines = 1;
+    while lines <= MOST_LINES {
+        let mut target = 0;
+        while target < lines {
+            let mut operator = 1;
+            while operator <= 5 {
+                asked[lines - 1][8 * target + operator] = bare_bytes(lines, target) << 16;
+                operator += 1;
+            }
+            target += 1;
+        }
+        lines += 1;
+    }
+    asked
+};
+
 /// A 3 in the control bytes that must say "none": the target's own, and those of
 /// the lines that the board doesn't have.
-fn bare_bytes(lines: Lines, target: usize) -> u64 {
-    let beyond = THREE_EACH & (THREE_EACH << (8 * lines.count()));
-    beyond | 3 << (8 * target)
+const fn bare_bytes(lines: usize, target: usize) -> u64 {
+    beyond(lines) | 3 << (8 * target)
+}
+
+/// A 3 in the control bytes of the lines that the board doesn't have.
+const fn beyond(lines: usize) -> u64 {
+    THREE_EACH & (THREE_EACH << (8 * lines))
 }
 
 /// A 1 in each of six bytes that isn't 0, where no byte is above 3.
 pub(crate) fn nonzero_bytes(bytes: u64) -> u64 {
     (bytes | bytes >> 1) & ONE_EACH
-}
-
-/// The sum of six bytes that are 0 or 1: the product gathers it in the sixth.
-fn count(ones: u64) -> usize {
-    (ones.wrapping_mul(ONE_EACH) >> 40) as usize & 7
 }

@@ -43,6 +43,7 @@ pub mod listing;
 pub mod pattern;
 mod planes;
 pub mod sheet;
+mod standing;
 pub mod synthesis;
 pub mod table;
 pub mod tidying;

