@@ -1,6 +1,6 @@
 //! Cascades that are hard to tidy, made by formula.
 
-use second::gate::Operator::{self, C1, C2, D, E};
+use second::gate::Operator::{self, C1, C2, D, E, N};
 use second::gate::{NO_CONTROL, RECORD};
 
 /// How to make a cascade on six lines of any length: gates that only stand there,
@@ -94,10 +94,10 @@ fn words(operator: Operator, controls: usize, count: usize, start: usize, step: 
     Part { operator, target: 5, lines, count, start, step, drift: 0 }
 }
 
-/// Gates with five controls, in orders in which nearly every one loses its
-/// controls step by step and then goes with another.
+/// Gates with five controls, of which nearly every one loses its controls step by
+/// step and then goes with another: two numbers in turn, both growing by five.
 fn chains() -> Vec<Part> {
-    vec![words(D, 5, 324, 0, 77), Part { drift: 5, ..words(D, 5, 324, 116, 197) }]
+    [188, 21].map(|start| Part { drift: 5, ..words(N, 5, 1, start, 0) }).into()
 }
 
 /// Few gates in which many steps are possible; each segment blocks the one before,
@@ -114,7 +114,7 @@ pub fn hard() -> [(&'static str, Recipe); 5] {
         ("chains", Recipe { idle: 0, standing: 0, parts: chains() }),
         ("chains behind 683 that pass all", Recipe { idle: 0, standing: 683, parts: rotations }),
         ("segments behind idle gates", Recipe { idle: 2_000, standing: 0, parts: segments() }),
-        ("chains behind idle gates", Recipe { idle: 3_000, standing: 0, parts: chains() }),
+        ("chains behind idle gates", Recipe { idle: 3_500, standing: 0, parts: chains() }),
     ]
 }
 
