@@ -6,3 +6,8 @@ pub mod Answers
 pub mod Stored
 pub mod Sounds
 pub mod Readings
+pub mod Bits
+pub mod Parts
+pub mod Starts
+pub mod Runs
+pub mod Turns

@@ -10,10 +10,13 @@ ghost use Rattle.ranges.specs.Ranges.{span};
 ghost use Rattle.cascades.specs.Prices.{base, cascadePrice};
 ghost use Rattle.cascades.specs.Answers.{countedAs, ranAs, tabulatedAs, pricedAs, sound, checkAnswer, runAnswer, tabulateAnswer, tabulateRoom, invertAnswer, invertRoom, priceAnswer};
 
+mod entries;
 pub mod lengths;
+mod planes;
 mod prices;
 pub mod scan;
 mod undo;
+mod untouched;
 pub mod whole;
 
 use gates::Record;

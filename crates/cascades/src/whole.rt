@@ -1,37 +1,42 @@
-// A whole table at once: the identity, and each gate applied to all entries.
+// A whole table at once, by planes.
 ghost use mathlib.Core.Path.{_≡_};
-ghost use mathlib.Core.List.{map};
-ghost use Prim.Native.Nat.{ℕ, _≤_, _<_, _^_};
-ghost use lib.ListN.{length, getD};
-ghost use Rattle.ranges.specs.Ranges.{span};
-ghost use Rattle.gates.specs.Gates.{applied};
+ghost use Prim.Native.Nat.{_*_, _≤_, _<_, _^_};
+ghost use lib.ListN.{length};
 ghost use Rattle.cascades.specs.Cascades.{Whole, gatesOf, tableOf};
-use gates::Gate;
-use gates::Record;
+use crate::entries;
+use crate::planes;
+use crate::untouched;
 
-// Entry p is p.
-fn write_identity(table: &mut [u16])
-    requires { ⌜ length (now table) ≤ 729 ⌝ }
-    ensures { λ _. ⌜ now (table .exit) ≡ span (λ p. p) 0 (length (now (table .entry))) ⌝ }
+// The table of a cascade that was checked, with room for so many blocks of planes.
+fn write_with(lines: u8, cascade: &[u8], m: usize, planes: &mut [u64], blocks: usize, table: &mut [u16])
+    requires { ⌜ Whole lines (now cascade) m ⌝ }
+    requires { ⌜ (length (now planes) ≡ 96 * blocks) × (blocks ≤ 3) ⌝ }
+    requires { ⌜ (length (now table) ≡ 3 ^ lines) × (3 ^ lines ≤ 243 * blocks) ⌝ }
+    ensures { λ _. ⌜ now (table .exit) ≡ tableOf lines (gatesOf (now (cascade .entry))) ⌝ }
 {
-    let mut p: usize = 0;
-    while p < table.len() {
-        table[p] = p as u16;
-        p = p + 1;
-    }
+    untouched::lay(planes, blocks);
+    planes::run(lines, cascade, m, planes, blocks);
+    entries::write(planes, blocks, table);
 }
 
-// The gate, applied to all entries.
-fn apply_all(g: Gate, table: &mut [u16])
-    requires { ⌜ g .target < 6 ⌝ }
-    requires { ⌜ ((p : ℕ) → p < length (now table) → getD (now table) p 0 < 729) ⌝ }
-    ensures { λ _. ⌜ now (table .exit) ≡ map (applied g) (now (table .entry)) ⌝ }
+// Up to five lines: one block.
+fn write_narrow(lines: u8, cascade: &[u8], m: usize, table: &mut [u16])
+    requires { ⌜ Whole lines (now cascade) m ⌝ }
+    requires { ⌜ (length (now table) ≡ 3 ^ lines) × (lines < 6) ⌝ }
+    ensures { λ _. ⌜ now (table .exit) ≡ tableOf lines (gatesOf (now (cascade .entry))) ⌝ }
 {
-    let mut p: usize = 0;
-    while p < table.len() {
-        table[p] = gates::apply(g, table[p]);
-        p = p + 1;
-    }
+    let mut planes = [0u64; 96];
+    write_with(lines, cascade, m, &mut planes, 1, table);
+}
+
+// Six lines: a block for each digit on the sixth.
+fn write_wide(lines: u8, cascade: &[u8], m: usize, table: &mut [u16])
+    requires { ⌜ Whole lines (now cascade) m ⌝ }
+    requires { ⌜ length (now table) ≡ 3 ^ lines ⌝ }
+    ensures { λ _. ⌜ now (table .exit) ≡ tableOf lines (gatesOf (now (cascade .entry))) ⌝ }
+{
+    let mut planes = [0u64; 288];
+    write_with(lines, cascade, m, &mut planes, 3, table);
 }
 
 // The table of a cascade that was checked.
@@ -40,25 +45,9 @@ pub fn write_table(lines: u8, cascade: &[u8], m: usize, table: &mut [u16])
     requires { ⌜ length (now table) ≡ 3 ^ lines ⌝ }
     ensures { λ _. ⌜ now (table .exit) ≡ tableOf lines (gatesOf (now (cascade .entry))) ⌝ }
 {
-    write_identity(table);
-    let mut i: usize = 0;
-    while i < m {
-        let Record::Gate {
-            operator,
-            target,
-            controls,
-        } = gates::decode(lines, cascade, 8 * i)
-        else {
-            return;
-        };
-        apply_all(
-            Gate {
-                operator,
-                target,
-                controls,
-            },
-            table,
-        );
-        i = i + 1;
+    if lines < 6 {
+        write_narrow(lines, cascade, m, table);
+    } else {
+        write_wide(lines, cascade, m, table);
     }
 }

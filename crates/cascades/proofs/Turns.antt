@@ -1,0 +1,257 @@
+-- A gate on a block of planes. `turning-next` is one turn of the loop that makes the target's new planes, `put-turned` says what storing them does,
+-- and `stepped` that the block then shows what the gate makes of each pattern that it showed. Assumes nothing.
+use mathlib.Core.Path.{_≡_, refl, sym, ap, _∙_}
+use mathlib.Core.Bool.{Bool, true, false, cond, not, Bool·beq, _&&_, _||_}
+use mathlib.Core.List.{List}
+use mathlib.Core.Logic.{_⊎_, ⊎-elim}
+use Prim.Native.Nat.{ℕ, zero, suc, _+_, _*_, _≤_, _<_}
+use native.Mathlib.Nat.{add-zero, add-assoc}
+use native.Mathlib.Decide.{ℕ-discrete}
+use native.Mathlib.Omega.{arith}
+use lib.ListN.{length, getD, set, length-set}
+use lib.Seq.{sets}
+use Rattle.ranges.specs.Ranges.{every, span}
+use Rattle.ranges.proofs.Lists.{through-nil}
+use Rattle.ranges.proofs.Spans.{span-none}
+use Rattle.ranges.proofs.Counts.{lt-or-le}
+use Rattle.ranges.proofs.Changes.{at-set}
+use Rattle.ranges.proofs.Stores.{getD-sets, getD-sets-below, getD-sets-above}
+use Rattle.ranges.proofs.Triples.{triple-at, beq-same}
+use Rattle.digits.specs.Digits.{digit, put}
+use Rattle.digits.proofs.Digits.{digit-lt, digit-put-same, digit-put-other}
+use Rattle.digits.proofs.Three.{three}
+use Rattle.gates.specs.declared.Gate.{Gate}
+use Rattle.gates.specs.Gates.{act, inverseOp, control, holds, firesOn, fires, applied, IsGate}
+use Rattle.gates.specs.Records.{isRecord}
+use Rattle.gates.proofs.Operators.{act-lt}
+use Rattle.gates.proofs.Gates.{applied-yes, applied-no, holds-none}
+use Rattle.gates.proofs.Records.{gate-at}
+use Rattle.cascades.specs.Cascades.{ran}
+use Rattle.cascades.specs.declared.planes.Places.{Places}
+use Rattle.cascades.specs.Planes.{on, part, Shows, AllShow, placesOf, InBlock, chosenWord, neitherWord, firesWord, zeroWord, oneWord, newWord, Turned}
+use Rattle.cascades.proofs.Cascades.{gateOf, run-snoc}
+use Rattle.cascades.proofs.Bits.{on-and, on-chosen, on-neither}
+
+-- ---- the new planes, word by word
+
+-- the words below j of the three new planes are made
+pub record Turning (p : Places) (b new : List ℕ) (j : ℕ) : Type 0 where
+  pub within : j ≤ 4
+  pub long : length new ≡ 12
+  pub made : (c i : ℕ) → c < 3 → i < j → getD new (4 * c + i) 0 ≡ newWord p b c i
+
+pub turning-start : (p : Places) (b new : List ℕ) → length new ≡ 12 → Turning p b new 0
+turning-start p b new l = record { within = omega arith; long = l; made = λ c i lc li. absurd (omega arith) }
+
+module _ (p : Places) (b new : List ℕ) (j : ℕ) (now : Turning p b new j) (lj : j < 4) (z o t : ℕ) (ez : z ≡ zeroWord p b j) (eo : o ≡ oneWord p b j) (et : t ≡ neitherWord z o) where
+  -- what the word at x is to be
+  abbrev Right : ℕ → ℕ → Type 0
+  Right x v = (c i : ℕ) → c < 3 → i < j + 1 → x ≡ 4 * c + i → v ≡ newWord p b c i
+
+  right-zero : Right j z
+  unfolding newWord
+  right-zero c i lc li e =
+      let ec : c ≡ 0 = omega arith in
+      let ei : i ≡ j = omega arith in
+      rw (ec, ei) ez
+
+  right-one : Right (4 + j) o
+  unfolding newWord
+  right-one c i lc li e =
+      let ec : c ≡ 1 = omega arith in
+      let ei : i ≡ j = omega arith in
+      rw (ec, ei) eo
+
+  right-two : Right (8 + j) t
+  unfolding newWord
+  right-two c i lc li e =
+      let ec : c ≡ 2 = omega arith in
+      let ei : i ≡ j = omega arith in
+      rw (ec, ei, ← ez, ← eo) et
+
+  right-old : (x : ℕ) → (x ≡ 8 + j → ⊥) → (x ≡ 4 + j → ⊥) → (x ≡ j → ⊥) → Right x (getD new x 0)
+  right-old x n8 n4 n0 c i lc li e = rw e (now .made c i lc (smaller (ℕ-discrete i j)))
+    where
+      smaller : Dec (i ≡ j) → i < j
+      smaller (yes q) =
+          absurd (three (λ c. x ≡ 4 * c + i → ⊥) (λ h. n0 (omega arith)) (λ h. n4 (omega arith)) (λ h. n8 (omega arith)) c lc e)
+      smaller (no ne) = omega arith
+
+  pub turning-next : Turning p b (set (set (set new j z) (4 + j) o) (8 + j) t) (j + 1)
+  turning-next =
+      record {
+        within = omega arith;
+        long = simp length-set (now .long);
+        made =
+            λ c i lc li.
+            at-set Right (set (set new j z) (4 + j) o) (8 + j) t 0 (simp length-set (omega (arith, now .long))) right-two (4 * c + i)
+            (λ n8. at-set Right (set new j z) (4 + j) o 0 (simp length-set (omega (arith, now .long))) right-one (4 * c + i)
+            (λ n4. at-set Right new j z 0 (omega (arith, now .long)) right-zero (4 * c + i)
+            (λ n0. right-old (4 * c + i) n8 n4 n0)))
+            c i lc li refl;
+      }
+
+-- ---- stored
+
+pub put-turned : (p : Places) (b new : List ℕ) → InBlock p → length b ≡ 96 → length new ≡ 12
+    → ((c j : ℕ) → c < 3 → j < 4 → getD new (4 * c + j) 0 ≡ newWord p b c j) → Turned p b (sets b (p .target) new)
+put-turned p b new inside lb ln made =
+    record {
+      new = λ c j lc lj. getD-sets new b (p .target) (4 * c + j) 0 (omega (arith, inside .target)) (omega arith) ∙ made c j lc lj;
+      below = λ x lt. getD-sets-below new b (p .target) x 0 lt;
+      above = λ x le. getD-sets-above new b (p .target) x 0 (omega arith);
+    }
+
+-- ---- what it shows
+
+-- d is what an operator makes of a digit exactly if that digit is what its inverse makes of d
+taken : (o d x : ℕ) → 1 ≤ o → o ≤ 5 → d < 3 → x < 3 → holds d (act o x) ≡ holds (act (inverseOp o) d) x
+unfolding act inverseOp holds every
+taken zero d x low high ld lx = absurd (omega arith)
+taken (suc o) d x low high ld lx =
+    beq-same _ _
+    (triple-at (λ o d x. Bool·beq (holds d (act (suc o) x)) (holds (act (inverseOp (suc o)) d) x)) 5 3 3 refl o d x (omega arith) ld lx)
+
+-- other lines stay
+other-line : (g : Gate) (p k : ℕ) → (k ≡ g .target → ⊥) → digit 3 k (applied g p) ≡ digit 3 k p
+other-line g p k ne = go (fires g p) refl
+  where
+    go : (b : Bool) → fires g p ≡ b → digit 3 k (applied g p) ≡ digit 3 k p
+    go true e = rw (applied-yes g p e) (digit-put-other 3 k (g .target) p _ (act-lt (g .operator) (digit 3 (g .target) p)) ne)
+    go false e = rw (applied-no g p e)
+
+-- a control of value d is content with the target after the gate
+moved : (g : Gate) (p d : ℕ) → 1 ≤ g .operator → g .operator ≤ 5 → d < 3
+    → holds d (digit 3 (g .target) (applied g p))
+    ≡ cond (fires g p) (holds (act (inverseOp (g .operator)) d) (digit 3 (g .target) p)) (holds d (digit 3 (g .target) p))
+moved g p d low high ld = go (fires g p) refl
+  where
+    go : (b : Bool) → fires g p ≡ b
+        → holds d (digit 3 (g .target) (applied g p))
+        ≡ cond b (holds (act (inverseOp (g .operator)) d) (digit 3 (g .target) p)) (holds d (digit 3 (g .target) p))
+    go true e =
+        rw (applied-yes g p e, digit-put-same 3 (g .target) p _ (act-lt (g .operator) (digit 3 (g .target) p)))
+        (taken (g .operator) d (digit 3 (g .target) p) low high ld (digit-lt 3 (g .target) p (omega arith)))
+    go false e = rw (applied-no g p e)
+
+-- a digit is 2 exactly if it is neither 0 nor 1
+holds-two : (y : ℕ) → y < 3 → not (holds 0 y || holds 1 y) ≡ holds 2 y
+unfolding holds
+holds-two = three (λ y. not (holds 0 y || holds 1 y) ≡ holds 2 y) refl refl refl
+
+six : (a b c d e f : Bool) → (a && b && c && d && e && f) ≡ (a && (b && (c && (d && (e && (f && true))))))
+six false b c d e f = refl
+six true false c d e f = refl
+six true true false d e f = refl
+six true true true false e f = refl
+six true true true true false f = refl
+six true true true true true false = refl
+six true true true true true true = refl
+
+module _ (g : Gate) (b b′ : List ℕ) (f : ℕ → ℕ) (low : 1 ≤ g .operator) (high : g .operator ≤ 5) (line : g .target < 6)
+    (turned : Turned (placesOf g) b b′) (shows : Shows b f) where
+  module _ (j i : ℕ) (lj : j < 4) (li : i < 64) (lq : 64 * j + i < 243) where
+    -- a line's control
+    asked : (k : ℕ) → k < 6 → on i (getD b (16 * k + 4 * control g k + j) 0) ≡ holds (control g k) (digit 3 k (f (64 * j + i)))
+    asked k lk = shows .shown k (control g k) j i lk (digit-lt 4 k (g .controls) (omega arith)) lj li lq
+
+    fires-shown : on i (firesWord (placesOf g) b j) ≡ fires g (f (64 * j + i))
+    unfolding firesWord placesOf firesOn every
+    fires-shown =
+        let h : ℕ → Bool = λ k. holds (control g k) (digit 3 k (f (64 * j + i))) in
+        rw (on-and, on-and, on-and, on-and, on-and, asked 0 (omega arith), asked 1 (omega arith), asked 2 (omega arith), asked 3 (omega arith), asked 4 (omega arith), asked 5 (omega arith))
+        (six (h 0) (h 1) (h 2) (h 3) (h 4) (h 5))
+
+    -- the planes for 0 and 1 of the target
+    from-shown : (d : ℕ) → d < 3 → on i (getD b (16 * g .target + 4 * d + j) 0) ≡ holds d (digit 3 (g .target) (f (64 * j + i)))
+    from-shown d ld = shows .shown (g .target) d j i line (omega arith) lj li lq
+
+    chosen-shown : (d from : ℕ) → d < 3 → from ≡ act (inverseOp (g .operator)) d
+        → on i (chosenWord (firesWord (placesOf g) b j) (getD b (16 * g .target + 4 * from + j) 0) (getD b (16 * g .target + 4 * d + j) 0))
+        ≡ holds d (digit 3 (g .target) (applied g (f (64 * j + i))))
+    chosen-shown d from ld e =
+        rw (on-chosen, fires-shown, from-shown from (rw e (act-lt (inverseOp (g .operator)) d)), from-shown d ld, e)
+        (sym (moved g (f (64 * j + i)) d low high ld))
+
+    zero-shown : on i (zeroWord (placesOf g) b j) ≡ holds 0 (digit 3 (g .target) (applied g (f (64 * j + i))))
+    unfolding zeroWord placesOf
+    zero-shown = rw (add-zero (16 * g .target)) at (chosen-shown 0 (act (inverseOp (g .operator)) 0) (omega arith) refl)
+
+    one-shown : on i (oneWord (placesOf g) b j) ≡ holds 1 (digit 3 (g .target) (applied g (f (64 * j + i))))
+    unfolding oneWord placesOf
+    one-shown = chosen-shown 1 (act (inverseOp (g .operator)) 1) (omega arith) refl
+
+    new-shown : (c : ℕ) → c < 3 → on i (getD b′ (16 * g .target + 4 * c + j) 0) ≡ on i (newWord (placesOf g) b c j)
+    unfolding placesOf
+    new-shown c lc = rw (add-assoc (16 * g .target) (4 * c) j) (ap (on i) (turned .new c j lc lj))
+
+    target-shown : (c : ℕ) → c < 4 → on i (getD b′ (16 * g .target + 4 * c + j) 0) ≡ holds c (digit 3 (g .target) (applied g (f (64 * j + i))))
+    unfolding placesOf newWord
+    target-shown zero lc = new-shown 0 (omega arith) ∙ zero-shown
+    target-shown (suc zero) lc = new-shown 1 (omega arith) ∙ one-shown
+    target-shown (suc (suc zero)) lc =
+        new-shown 2 (omega arith)
+        ∙ rw (on-neither i (zeroWord (placesOf g) b j) (oneWord (placesOf g) b j) li, zero-shown, one-shown)
+        (holds-two (digit 3 (g .target) (applied g (f (64 * j + i)))) (digit-lt 3 (g .target) (applied g (f (64 * j + i))) (omega arith)))
+    target-shown (suc (suc (suc zero))) lc =
+        ap (on i) (turned .above (16 * g .target + 4 * 3 + j) (omega arith)) ∙ shows .shown (g .target) 3 j i line lc lj li lq
+        ∙ holds-none (digit 3 (g .target) (f (64 * j + i))) ∙ sym (holds-none (digit 3 (g .target) (applied g (f (64 * j + i)))))
+    target-shown (suc (suc (suc (suc c)))) lc = absurd (omega arith)
+
+    other-shown : (k c : ℕ) → k < 6 → c < 4 → (k ≡ g .target → ⊥) → on i (getD b′ (16 * k + 4 * c + j) 0) ≡ holds c (digit 3 k (applied g (f (64 * j + i))))
+    unfolding placesOf
+    other-shown k c lk lc ne =
+        rw (other-line g (f (64 * j + i)) k ne)
+        (⊎-elim
+        (λ lt. ap (on i) (turned .below (16 * k + 4 * c + j) (omega arith)) ∙ shows .shown k c j i lk lc lj li lq)
+        (λ le. ap (on i) (turned .above (16 * k + 4 * c + j) (above (ℕ-discrete k (g .target)) le)) ∙ shows .shown k c j i lk lc lj li lq)
+        (lt-or-le k (g .target)))
+      where
+        above : Dec (k ≡ g .target) → g .target ≤ k → 16 * g .target + 12 ≤ 16 * k + 4 * c + j
+        above (yes q) le = absurd (ne q)
+        above (no n) le = omega arith
+
+  pub stepped : Shows b′ (λ q. applied g (f q))
+  stepped = record { shown = λ k c j i lk lc lj li lq. at k c j i lk lc lj li lq (ℕ-discrete k (g .target)) }
+    where
+      at : (k c j i : ℕ) → k < 6 → c < 4 → j < 4 → i < 64 → 64 * j + i < 243 → Dec (k ≡ g .target)
+          → on i (getD b′ (16 * k + 4 * c + j) 0) ≡ holds c (digit 3 k (applied g (f (64 * j + i))))
+      at k c j i lk lc lj li lq (yes q) = rw q (target-shown j i lj li lq c lc)
+      at k c j i lk lc lj li lq (no ne) = other-shown j i lj li lq k c lk lc ne
+
+-- ---- the places of a gate, and all blocks
+
+pub in-block : (n : ℕ) (g : Gate) → n ≤ 6 → IsGate n g → InBlock (placesOf g)
+unfolding placesOf
+in-block n g six ok =
+    let low : (k : ℕ) → control g k < 4 = λ k. digit-lt 4 k (g .controls) (omega arith) in
+    let from : (d : ℕ) → act (inverseOp (g .operator)) d < 3 = λ d. act-lt (inverseOp (g .operator)) d in
+    record {
+      line0 = omega (arith, low 0);
+      line1 = omega (arith, low 1);
+      line2 = omega (arith, low 2);
+      line3 = omega (arith, low 3);
+      line4 = omega (arith, low 4);
+      line5 = omega (arith, low 5);
+      target = omega (arith, ok .on-line);
+      zero = omega (arith, ok .on-line, from 0);
+      one = omega (arith, ok .on-line, from 1);
+    }
+
+shows-ext : (b : List ℕ) (f g : ℕ → ℕ) → ((q : ℕ) → f q ≡ g q) → Shows b f → Shows b g
+shows-ext b f g e s = record { shown = λ k c j i lk lc lj li lq. s .shown k c j i lk lc lj li lq ∙ ap (λ (x : ℕ). holds c (digit 3 k x)) (e (64 * j + i)) }
+
+-- no gate yet
+pub all-start : (n : ℕ) (ws b : List ℕ) → AllShow n ws (λ p. p) → AllShow n ws (ran (span (gateOf b) 0 0))
+all-start n ws b h s lt =
+    shows-ext (part s ws) (λ q. 243 * s + q) (λ q. ran (span (gateOf b) 0 0) (243 * s + q))
+    (λ q. sym (rw (span-none (gateOf b) 0) (through-nil applied (243 * s + q)))) (h s lt)
+
+-- one more
+pub all-next : (lines n i : ℕ) (ws ws′ b : List ℕ) (p : Places) → lines ≤ 6 → isRecord lines b (8 * i) ≡ true → p ≡ placesOf (gateOf b i)
+    → ((s : ℕ) → s < n → Turned p (part s ws) (part s ws′)) → AllShow n ws (ran (span (gateOf b) 0 i)) → AllShow n ws′ (ran (span (gateOf b) 0 (i + 1)))
+all-next lines n i ws ws′ b p six is e turned h s lt =
+    let g = gate-at lines b (8 * i) six is in
+    shows-ext (part s ws′) (λ q. applied (gateOf b i) (ran (span (gateOf b) 0 i) (243 * s + q))) (λ q. ran (span (gateOf b) 0 (i + 1)) (243 * s + q))
+    (λ q. sym (run-snoc b i (243 * s + q)))
+    (stepped (gateOf b i) (part s ws) (part s ws′) (λ q. ran (span (gateOf b) 0 i) (243 * s + q)) (g .op-low) (g .op-high) (omega (arith, g .on-line)) (rw e at (turned s lt)) (h s lt))
