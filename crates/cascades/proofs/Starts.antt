@@ -127,6 +127,7 @@ module _ (b : List ℕ) (d : ℕ) (lb : length b ≡ 96) (ld : d < 3) where
         rw (ek, ec)
         (ap (on i) (getD-sets fullWords (sets b 0 firstWords) (80 + 4 * d) j 0 (rw (length-sets b 0 firstWords) (omega (arith, full-length))) (omega (arith, full-length)) ∙ full-at j lj)
         ∙ on-all i li)
+
     module _ (lq : 64 * j + i < 243) where
       lower : k < 5 → on i (getD new (16 * k + 4 * c + j) 0) ≡ holds c (digit 3 k (243 * d + (64 * j + i)))
       unfolding first

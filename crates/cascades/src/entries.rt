@@ -66,7 +66,11 @@ fn step_end(p: usize, step: usize, entries: usize) -> usize
     requires { ⌜ p ≤ entries ⌝ }
     ensures { λ r. ⌜ r ≡ min (p + step) entries ⌝ }
 {
-    if entries - p < step { entries } else { p + step }
+    if entries - p < step {
+        entries
+    } else {
+        p + step
+    }
 }
 
 // The entries of a block.

@@ -8,7 +8,14 @@ use crate::planes;
 use crate::untouched;
 
 // The table of a cascade that was checked, with room for so many blocks of planes.
-fn write_with(lines: u8, cascade: &[u8], m: usize, planes: &mut [u64], blocks: usize, table: &mut [u16])
+fn write_with(
+    lines: u8,
+    cascade: &[u8],
+    m: usize,
+    planes: &mut [u64],
+    blocks: usize,
+    table: &mut [u16],
+)
     requires { ⌜ Whole lines (now cascade) m ⌝ }
     requires { ⌜ (length (now planes) ≡ 96 * blocks) × (blocks ≤ 3) ⌝ }
     requires { ⌜ (length (now table) ≡ 3 ^ lines) × (3 ^ lines ≤ 243 * blocks) ⌝ }

@@ -54,7 +54,7 @@ module _ (n k a : ℕ) where
 -- ---- the gate
 
 module _ (n k a d : ℕ) where
-  gate-control : (j : ℕ) → j < 6 → control (gateFor n k a d) j ≡ controlFor n k a j
+  pub gate-control : (j : ℕ) → j < 6 → control (gateFor n k a d) j ≡ controlFor n k a j
   unfolding gateFor
   gate-control j lt = digit-pack 4 (controlFor n k a) 6 (λ i l. control-lt n k a i) j lt
 

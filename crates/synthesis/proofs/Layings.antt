@@ -1,71 +1,62 @@
--- Records laid into a room from its end to its start: none, one, and a run before another. At record 0 the room begins with them all. Assumes nothing.
+-- Words laid into a list from its end to its start: none, one, and a run before another. At last the list ends with them all. Assumes nothing.
 use mathlib.Core.Path.{_≡_, refl, sym, ap, _∙_}
-use mathlib.Core.List.{List, [], _∷_, _++_}
-use Prim.Native.Nat.{ℕ, _+_, _*_, _≤_}
+use mathlib.Core.List.{List, [], _∷_, _++_, map, map-append, append-nil}
+use Prim.Native.Nat.{ℕ, _+_, _≤_}
 use native.Mathlib.Nat.{add-zero}
 use native.Mathlib.Omega.{arith}
-use lib.ListN.{length, getD, length-append}
-use lib.Seq.{sets, length-sets}
+use lib.ListN.{length, getD, set, take, drop, length-append, length-map, drop-of-length-le}
+use lib.Seq.{sets, sets-eq, length-sets, length-take-le, drop-at}
 use Rattle.ranges.proofs.Stores.{sets-before}
 use Rattle.digits.specs.Digits.{digit}
 use Rattle.gates.specs.declared.Gate.{Gate}
 use Rattle.gates.specs.Gates.{applied}
-use Rattle.gates.specs.Records.{recordOf}
-use Rattle.card.specs.Card.{laid}
-use Rattle.card.proofs.Cards.{sets-laid}
 use Rattle.procedure.specs.Procedure.{State, adding}
 use Rattle.procedure.proofs.Steps.{begun, step-same, step-other}
-use Rattle.cascades.specs.Cascades.{bytesOf}
-use Rattle.cascades.proofs.Stored.{length-bytes, bytes-append}
 use Rattle.synthesis.specs.Synthesis.{gateFor}
-use Rattle.synthesis.specs.Steps.{stepFrom, Lays}
+use Rattle.synthesis.specs.Steps.{stepFrom, wordOf, Lays}
 
-pub lays-none : (e : ℕ) (room : List ℕ) → Lays [] e e room room
-unfolding bytesOf
-lays-none e room = record { count = add-zero e; bytes = refl }
-
-pub lays-one : (g : Gate) (e e′ : ℕ) (room room′ : List ℕ) → e + 1 ≡ e′ → room′ ≡ sets room (8 * e) (recordOf g) → Lays (g ∷ []) e e′ room room′
-unfolding bytesOf recordOf
-lays-one g e e′ room room′ q s = record { count = q; bytes = s }
+pub lays-none : (e : ℕ) (ws : List ℕ) → Lays [] e e ws ws
+lays-none e ws = record { count = add-zero e; words = refl }
 
 -- ---- the gates of a digit
 
 module _ (n i k : ℕ) (t : List ℕ) where
-  pub emits-none : (e : ℕ) (room : List ℕ) → digit 3 k (getD t i 0) ≡ digit 3 k i → Lays (stepFrom n i k t .found) e e room room
-  emits-none e room q = rw (step-same 3 applied gateFor n i k (begun t) q) (lays-none e room)
+  pub emits-none : (e : ℕ) (ws : List ℕ) → digit 3 k (getD t i 0) ≡ digit 3 k i → Lays (stepFrom n i k t .found) e e ws ws
+  emits-none e ws q = rw (step-same 3 applied gateFor n i k (begun t) q) (lays-none e ws)
 
-  module _ (d : ℕ) (ed : d ≡ digit 3 k i) (ne : digit 3 k (getD t i 0) ≡ d → ⊥) where
-    one-gate : stepFrom n i k t .found ≡ gateFor n k (getD t i 0) d ∷ []
+  module _ (ne : digit 3 k (getD t i 0) ≡ digit 3 k i → ⊥) where
+    one-gate : stepFrom n i k t .found ≡ gateFor n k (getD t i 0) (digit 3 k i) ∷ []
     unfolding adding
-    one-gate = rw ed (ap (λ (z : State Gate). z .found) (step-other 3 applied gateFor n i k (begun t) (λ e. ne (e ∙ sym ed))))
+    one-gate = ap (λ (z : State Gate). z .found) (step-other 3 applied gateFor n i k (begun t) ne)
 
-    pub emits-count : length (stepFrom n i k t .found) ≡ 1
-    emits-count = ap length one-gate
+    pub emits-room : (e : ℕ) → length (stepFrom n i k t .found) ≤ e → 1 ≤ e
+    emits-room e le = rw one-gate at le
 
-    pub emits-one : (e e′ : ℕ) (g : Gate) (room room′ : List ℕ) → g ≡ gateFor n k (getD t i 0) d → e + 1 ≡ e′ → room′ ≡ sets room (8 * e) (recordOf g)
-        → Lays (stepFrom n i k t .found) e e′ room room′
-    emits-one e e′ g room room′ eg q s = rw (one-gate, ← eg) (lays-one g e e′ room room′ q s)
+    pub emits-one : (a e e′ w : ℕ) (ws : List ℕ) → a ≡ getD t i 0 → e + 1 ≡ e′ → w ≡ wordOf (gateFor n k a (digit 3 k i))
+        → Lays (stepFrom n i k t .found) e e′ ws (set ws e w)
+    emits-one a e e′ w ws ea q s = rw (one-gate, ← ea, s) (record { count = q; words = refl })
 
 -- ---- runs
 
--- the room keeps its length
-pub lays-length : (gs : List Gate) (e e′ : ℕ) (room room′ : List ℕ) → Lays gs e e′ room room′ → length room′ ≡ length room
-lays-length gs e e′ room room′ w = ap length (w .bytes) ∙ length-sets room (8 * e) (bytesOf gs)
+-- the list keeps its length
+pub lays-length : (gs : List Gate) (e e′ : ℕ) (ws ws′ : List ℕ) → Lays gs e e′ ws ws′ → length ws′ ≡ length ws
+lays-length gs e e′ ws ws′ w = ap length (w .words) ∙ length-sets ws e (map wordOf gs)
 
 -- a run before another
-pub lays-more : (gs hs : List Gate) (e e′ c : ℕ) (room room′ room″ : List ℕ) → Lays gs e c room room′ → Lays hs e′ e room′ room″ → Lays (hs ++ gs) e′ c room room″
-lays-more gs hs e e′ c room room′ room″ w u =
+pub lays-more : (gs hs : List Gate) (e e′ c : ℕ) (ws ws′ ws″ : List ℕ) → Lays gs e c ws ws′ → Lays hs e′ e ws′ ws″ → Lays (hs ++ gs) e′ c ws ws″
+lays-more gs hs e e′ c ws ws′ ws″ w u =
     record {
       count = omega (arith, w .count, u .count, length-append hs gs);
-      bytes =
-          u .bytes
-          ∙ ap (λ (x : List ℕ). sets x (8 * e′) (bytesOf hs)) (w .bytes)
-          ∙ sets-before (bytesOf hs) (bytesOf gs) room (8 * e′) (8 * e) (omega (arith, u .count, length-bytes hs))
-          ∙ ap (sets room (8 * e′)) (sym (bytes-append hs gs));
+      words =
+          u .words
+          ∙ ap (λ (x : List ℕ). sets x e′ (map wordOf hs)) (w .words)
+          ∙ sets-before (map wordOf hs) (map wordOf gs) ws e′ e (omega (arith, u .count, length-map hs wordOf))
+          ∙ ap (sets ws e′) (sym (map-append wordOf hs gs));
     }
 
 -- all of them
-pub lays-all : (gs : List Gate) (e c : ℕ) (room room′ : List ℕ) → c ≡ length gs → 8 * c ≤ length room → Lays gs e c room room′ → room′ ≡ laid (bytesOf gs) room
-lays-all gs e c room room′ q fits w =
-    let z : e ≡ 0 = omega (arith, w .count) in
-    w .bytes ∙ ap (λ (x : ℕ). sets room (8 * x) (bytesOf gs)) z ∙ sets-laid (bytesOf gs) room (omega (arith, length-bytes gs))
+pub lays-all : (gs : List Gate) (e : ℕ) (ws ws′ : List ℕ) → Lays gs e (length ws) ws ws′ → drop e ws′ ≡ map wordOf gs
+lays-all gs e ws ws′ w =
+    let fits : e + length (map wordOf gs) ≡ length ws = omega (arith, w .count, length-map gs wordOf) in
+    let rest : drop (e + length (map wordOf gs)) ws ≡ [] = drop-of-length-le ws {i = e + length (map wordOf gs)} (omega arith) in
+    rw (w .words, sets-eq (map wordOf gs) ws e (omega arith), rest, append-nil) (drop-at (take e ws) (map wordOf gs) e (length-take-le e ws (omega arith)))

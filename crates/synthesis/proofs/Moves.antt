@@ -1,20 +1,25 @@
--- The tables as the code moves them are those of the procedure: one digit (`step-not`, `step-gate`), a row digit by digit (`row-none`, `row-more`), the rows one
--- by one (`rows-none`, `rows-more`), with the inverse kept beside the table. Assumes nothing.
+-- The tables as the code moves them are those of the procedure: one digit (`step-not`, `step-gate`), a row digit by digit (`row-none`, `row-more`, `row-past`),
+-- the rows one by one (`rows-none`, `rows-more`), with the inverse kept beside the table. Assumes nothing.
 use mathlib.Core.Path.{_≡_, refl, sym, ap, _∙_}
 use mathlib.Core.List.{List, [], _∷_, _++_, map}
-use Prim.Native.Nat.{ℕ, _+_, _^_, _≤_, _<_}
+use mathlib.Core.Logic.{_⊎_, ⊎-elim}
+use Prim.Native.Nat.{ℕ, zero, suc, _+_, _^_, _≤_, _<_}
+use native.Mathlib.Decide.{ℕ-discrete}
 use native.Mathlib.Numerals.{add-one}
 use native.Mathlib.Omega.{arith}
 use lib.ListN.{length, getD, set, length-append}
+use Rattle.ranges.proofs.Counts.{here-or-later, lt-or-le}
 use Rattle.digits.specs.Digits.{digit, put}
+use Rattle.digits.proofs.Digits.{digit-lt, digit-high, digit-put-same, put-same}
 use Rattle.digits.proofs.Sizes.{three-pos, patterns-most}
 use Rattle.gates.specs.declared.Gate.{Gate}
 use Rattle.gates.specs.Gates.{applied}
-use Rattle.procedure.specs.Procedure.{State, adding, rowSteps, rows, settled, cascadeFor}
+use Rattle.procedure.specs.Procedure.{State, adding, digitStep, rowSteps, rows, settled, cascadeFor}
 use Rattle.procedure.proofs.Steps.{begun, step-same, step-other, row-next, row-grows, rows-next, rows-grow}
-use Rattle.procedure.proofs.Settles.{permutation-after}
+use Rattle.procedure.proofs.Families.{Asked}
+use Rattle.procedure.proofs.Settles.{entry-after, permutation-after}
 use Rattle.procedure.proofs.Inverses.{inverse-size}
-use Rattle.procedure.proofs.Swaps.{asked, other-lt, row-lt, table-stores, inverse-stores}
+use Rattle.procedure.proofs.Swaps.{other-lt, row-lt, table-stores, inverse-stores}
 use Rattle.synthesis.specs.Synthesis.{gateFor, synthesized}
 use Rattle.synthesis.specs.Steps.{stepFrom, rowFrom, rowsFrom, Paired, Reached}
 use Rattle.synthesis.proofs.Ternary.{ternary}
@@ -41,46 +46,80 @@ same-sizes n t v t′ v′ w w′ =
 
 -- ---- one digit
 
-pub step-not : (n i k : ℕ) (t v : List ℕ) → Paired n t v → digit 3 k (getD t i 0) ≡ digit 3 k i → (0 ≡ length (stepFrom n i k t .found)) × Reached n (stepFrom n i k t) t v
-step-not n i k t v w e = rw (step-same 3 applied gateFor n i k (begun t) e) (refl, record { table = refl; pair = w })
+-- a is the entry of row i, and b is a with the digit of i on line k
+module _ (n i k a b : ℕ) (t v : List ℕ) (w : Paired n t v) (below : i < 3 ^ n) (ea : a ≡ getD t i 0) (eb : b ≡ put 3 k a (digit 3 k i)) where
+  pub agree : a ≡ b → digit 3 k (getD t i 0) ≡ digit 3 k i
+  agree e = rw (← ea) (ap (digit 3 k) (e ∙ eb) ∙ digit-put-same 3 k a (digit 3 k i) (digit-lt 3 k i three-pos))
 
--- a is the entry of row i, d is digit k of i, b is a with that digit, and y the row that holds b
-module _ (n i k a b d y : ℕ) (t v : List ℕ) (w : Paired n t v) (below : i < 3 ^ n) (line : k < n) (ea : a ≡ getD t i 0) (ed : d ≡ digit 3 k i)
-    (eb : b ≡ put 3 k a d) (ey : y ≡ getD v b 0) (ne : digit 3 k a ≡ d → ⊥) where
-  put-i : b ≡ put 3 k a (digit 3 k i)
-  put-i = eb ∙ ap (put 3 k a) ed
+  pub step-not : a ≡ b → Reached n (stepFrom n i k t) t v
+  step-not e = rw (step-same 3 applied gateFor n i k (begun t) (agree e)) (record { table = refl; pair = w })
 
-  differ : digit 3 k a ≡ digit 3 k i → ⊥
-  differ e = ne (e ∙ sym ed)
+  pub old-lt : a < 3 ^ n
+  old-lt = rw ea (w .perm .within i below)
 
-  pub new-lt : b < 3 ^ n
-  new-lt = other-lt 3 three-pos applied gateFor n (ternary n (w .lines)) t v (w .perm) (w .inverse) i k a b y below line ea put-i ey differ
+  module _ (ne : a ≡ b → ⊥) where
+    differ : digit 3 k a ≡ digit 3 k i → ⊥
+    differ e = ne (sym (eb ∙ ap (put 3 k a) (sym e) ∙ put-same 3 k a))
 
-  pub other-row : y < 3 ^ n
-  other-row = row-lt 3 three-pos applied gateFor n (ternary n (w .lines)) t v (w .perm) (w .inverse) i k a b y below line ea put-i ey differ
+    pub entries-differ : digit 3 k (getD t i 0) ≡ digit 3 k i → ⊥
+    entries-differ e = differ (ap (digit 3 k) ea ∙ e)
 
-  added : stepFrom n i k t ≡ record { table = map (applied (gateFor n k a (digit 3 k i))) t; found = gateFor n k a (digit 3 k i) ∷ [] }
-  unfolding adding
-  added = rw ea (step-other 3 applied gateFor n i k (begun t) (λ e. differ (ap (digit 3 k) ea ∙ e)))
+    -- from line n up all digits are 0
+    pub line : k < n
+    line =
+        ⊎-elim (λ (lt : k < n). lt)
+        (λ (le : n ≤ k). absurd (differ (digit-high 3 n k a three-pos old-lt le ∙ sym (digit-high 3 n k i three-pos below le)))) (lt-or-le k n)
 
-  pub step-gate : (1 ≡ length (stepFrom n i k t .found)) × Reached n (stepFrom n i k t) (set (set t i b) y a) (set (set v a y) b i)
-  step-gate =
-      let fam = ternary n (w .lines) in
-      let ask = asked 3 three-pos applied gateFor n fam t v (w .perm) (w .inverse) i k a b y below line ea put-i ey differ in
-      rw (added, table-stores 3 three-pos applied gateFor n fam t v (w .perm) (w .inverse) i k a b y below line ea put-i ey differ) (
-        refl,
-        record {
-          table = refl;
-          pair =
-              record {
-                lines = w .lines;
-                perm = permutation-after 3 three-pos applied gateFor n fam k a (digit 3 k i) ask t (w .perm);
-                inverse = inverse-stores 3 three-pos applied gateFor n fam t v (w .perm) (w .inverse) i k a b y below line ea put-i ey differ;
-              };
-        },
-      )
+    is-asked : Asked 3 n k a (digit 3 k i)
+    is-asked = record { line = line; pattern = old-lt; value = digit-lt 3 k i three-pos; differs = differ }
+
+    added : stepFrom n i k t ≡ record { table = map (applied (gateFor n k a (digit 3 k i))) t; found = gateFor n k a (digit 3 k i) ∷ [] }
+    unfolding adding
+    added = rw ea (step-other 3 applied gateFor n i k (begun t) entries-differ)
+
+    moved-entry : b ≡ getD (stepFrom n i k t .table) i 0
+    moved-entry =
+        rw added
+        (eb ∙ sym (entry-after 3 three-pos applied gateFor n (ternary n (w .lines)) k a (digit 3 k i) is-asked t (w .perm) i below ∙ rw (← ea) (ternary n (w .lines) .there k a (digit 3 k i) is-asked)))
+
+    -- y is the row that holds b
+    module _ (y : ℕ) (ey : y ≡ getD v b 0) where
+      pub new-lt : b < 3 ^ n
+      new-lt = other-lt 3 three-pos applied gateFor n (ternary n (w .lines)) t v (w .perm) (w .inverse) i k a b y below line ea eb ey differ
+
+      pub other-row : y < 3 ^ n
+      other-row = row-lt 3 three-pos applied gateFor n (ternary n (w .lines)) t v (w .perm) (w .inverse) i k a b y below line ea eb ey differ
+
+      pub step-gate : Reached n (stepFrom n i k t) (set (set t i b) y a) (set (set v a y) b i)
+      step-gate =
+          let fam = ternary n (w .lines) in
+          rw (added, table-stores 3 three-pos applied gateFor n fam t v (w .perm) (w .inverse) i k a b y below line ea eb ey differ)
+          (record {
+            table = refl;
+            pair =
+                record {
+                  lines = w .lines;
+                  perm = permutation-after 3 three-pos applied gateFor n fam k a (digit 3 k i) is-asked t (w .perm);
+                  inverse = inverse-stores 3 three-pos applied gateFor n fam t v (w .perm) (w .inverse) i k a b y below line ea eb ey differ;
+                };
+          })
+
+  -- either way the entry is b now
+  pub step-entry : b ≡ getD (stepFrom n i k t .table) i 0
+  step-entry = go (ℕ-discrete a b)
+    where
+      go : Dec (a ≡ b) → b ≡ getD (stepFrom n i k t .table) i 0
+      go (yes e) = rw (step-same 3 applied gateFor n i k (begun t) (agree e)) (sym e ∙ ea)
+      go (no ne) = moved-entry ne
 
 -- ---- a row, digit by digit
+
+-- nothing is found in a row whose entry stands right already
+pub row-settled : (n i : ℕ) (t : List ℕ) → getD t i 0 ≡ i → (m : ℕ) → rowFrom n i m t ≡ begun t
+unfolding rowSteps
+row-settled n i t e zero = refl
+row-settled n i t e (suc m) =
+    ap (digitStep 3 applied gateFor n i m) (row-settled n i t e m) ∙ step-same 3 applied gateFor n i m (begun t) (ap (digit 3 m) e)
 
 pub row-none : (n i : ℕ) (t v : List ℕ) → Paired n t v → (rowFrom n i 0 t .found ≡ []) × Reached n (rowFrom n i 0 t) t v
 unfolding rowSteps
@@ -90,13 +129,6 @@ module _ (n i k : ℕ) (t t′ v′ : List ℕ) (at : Reached n (rowFrom n i k t
   pub row-found : rowFrom n i (k + 1) t .found ≡ stepFrom n i k t′ .found ++ rowFrom n i k t .found
   row-found = rw (add-one k, at .table) (ap (λ (z : State Gate). z .found) (row-next 3 applied gateFor n i k (begun t)))
 
-  pub row-count : (c b : ℕ) → c ≡ length (rowFrom n i k t .found) → b ≡ length (stepFrom n i k t′ .found) → c + b ≡ length (rowFrom n i (k + 1) t .found)
-  row-count c b ec eb = omega (arith, ap length row-found ∙ length-append (stepFrom n i k t′ .found) (rowFrom n i k t .found))
-
-  -- the next gate of a row that fits has its place before record e
-  pub row-room : (e end : ℕ) → k < n → e + length (rowFrom n i k t .found) ≡ end → length (rowFrom n i n t .found) ≤ end → length (stepFrom n i k t′ .found) ≤ e
-  row-room e end lt q fits = omega (arith, row-count _ _ refl refl, row-grows 3 applied gateFor n i (begun t) (k + 1) n (omega arith))
-
   pub row-more : (t″ v″ : List ℕ) → Reached n (stepFrom n i k t′) t″ v″ → Reached n (rowFrom n i (k + 1) t) t″ v″
   row-more t″ v″ w =
       record {
@@ -105,6 +137,28 @@ module _ (n i k : ℕ) (t t′ v′ : List ℕ) (at : Reached n (rowFrom n i k t
             ∙ rw (add-one k) (sym (ap (λ (z : State Gate). z .table) (row-next 3 applied gateFor n i k (begun t))));
         pair = w .pair;
       }
+
+  module _ (below : i < 3 ^ n) (before : n ≤ k → rowFrom n i k t ≡ rowFrom n i n t) where
+    -- from line n up nothing is found
+    pub row-past : n ≤ k + 1 → rowFrom n i (k + 1) t ≡ rowFrom n i n t
+    unfolding rowSteps
+    row-past le = ⊎-elim (λ (e : n ≡ k + 1). ap (λ (m : ℕ). rowFrom n i m t) (sym e)) (λ (lt : n < k + 1). high (omega arith)) (here-or-later le)
+      where
+        high : n ≤ k → rowFrom n i (k + 1) t ≡ rowFrom n i n t
+        high l =
+            rw (add-one k)
+            (step-same 3 applied gateFor n i k (rowFrom n i k t)
+            (rw (← at .table) (digit-high 3 n k (getD t′ i 0) three-pos (at .pair .perm .within i below) l ∙ sym (digit-high 3 n k i three-pos below l)))
+            ∙ before l)
+
+    -- the next gate of a row that fits has its place before e
+    pub row-room : (e end : ℕ) → e + length (rowFrom n i k t .found) ≡ end → length (rowFrom n i n t .found) ≤ end → length (stepFrom n i k t′ .found) ≤ e
+    row-room e end q fits =
+        omega (arith, ap length row-found ∙ length-append (stepFrom n i k t′ .found) (rowFrom n i k t .found), within (lt-or-le k n))
+      where
+        within : (k < n) ⊎ (n ≤ k) → length (rowFrom n i (k + 1) t .found) ≤ length (rowFrom n i n t .found)
+        within (_⊎_.inl lt) = row-grows 3 applied gateFor n i (begun t) (k + 1) n (omega arith)
+        within (_⊎_.inr le) = rw (row-past (omega arith)) (omega arith)
 
 -- ---- the rows, one by one
 
@@ -124,11 +178,9 @@ module _ (n i : ℕ) (t t′ v′ : List ℕ) (at : Reached n (rowsFrom n i t) t
   pub rows-found : rowsFrom n (i + 1) t .found ≡ rowFrom n i n t′ .found ++ rowsFrom n i t .found
   rows-found = rw (add-one i, at .table) (ap (λ (z : State Gate). z .found) (rows-next 3 applied gateFor n i (begun t)))
 
-  pub rows-count : (c b : ℕ) → c ≡ length (rowsFrom n i t .found) → b ≡ length (rowFrom n i n t′ .found) → c + b ≡ length (rowsFrom n (i + 1) t .found)
-  rows-count c b ec eb = omega (arith, ap length rows-found ∙ length-append (rowFrom n i n t′ .found) (rowsFrom n i t .found))
-
-  pub rows-room : (e total : ℕ) → i < 3 ^ n → total ≡ length (synthesized n t) → e + length (rowsFrom n i t .found) ≡ total → length (rowFrom n i n t′ .found) ≤ e
-  rows-room e total lt eq q = omega (arith, rows-count _ _ refl refl, rows-within n (i + 1) t (omega arith))
+  pub rows-room : (e total : ℕ) → i < 3 ^ n → length (synthesized n t) ≤ total → e + length (rowsFrom n i t .found) ≡ total → length (rowFrom n i n t′ .found) ≤ e
+  rows-room e total lt fits q =
+      omega (arith, ap length rows-found ∙ length-append (rowFrom n i n t′ .found) (rowsFrom n i t .found), rows-within n (i + 1) t (omega arith))
 
   pub rows-more : (t″ v″ : List ℕ) → Reached n (rowFrom n i n t′) t″ v″ → Reached n (rowsFrom n (i + 1) t) t″ v″
   rows-more t″ v″ w =

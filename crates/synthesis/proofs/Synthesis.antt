@@ -4,12 +4,12 @@
 use mathlib.Core.Path.{_≡_, sym, ap, _∙_}
 use mathlib.Core.List.{List}
 use Prim.Native.Nat.{ℕ, zero, suc, _+_, _-_, _*_, _/_, _^_, _≤_, _<_}
-use native.Mathlib.Nat.{mul-le-mul}
+use native.Mathlib.Nat.{suc-mul, mul-le-mul, pow-le-pow-right}
 use native.Mathlib.Omega.{arith}
 use lib.ListN.{length, getD}
 use Rattle.ranges.specs.Lists.{Each}
 use Rattle.ranges.proofs.Lists.{each-imp}
-use Rattle.digits.proofs.Sizes.{three-pos, patterns-most}
+use Rattle.digits.proofs.Sizes.{three-pos}
 use Rattle.gates.specs.declared.Gate.{Gate}
 use Rattle.gates.specs.Gates.{applied, IsGate}
 use Rattle.tables.specs.Permutations.{Permutation, inverseTable}
@@ -23,16 +23,27 @@ use Rattle.synthesis.specs.Synthesis.{gateFor, synthesized, bound}
 use Rattle.synthesis.proofs.Controls.{is-gate}
 use Rattle.synthesis.proofs.Ternary.{ternary}
 
--- the room asked is 4,010 records at most
+-- the room asked grows with the lines: at most 284 records on four lines, and 4,010 on six
+bound-grows : (n m : ℕ) → n ≤ suc m → bound n ≤ bound (suc m)
+unfolding bound
+bound-grows zero m le = omega arith
+bound-grows (suc k) m le =
+    rw (suc-mul k (3 ^ suc k), suc-mul m (3 ^ suc m))
+    (numbers (k * 3 ^ suc k) (m * 3 ^ suc m) (3 ^ suc k) (3 ^ suc m) (mul-le-mul {n₁ = k} {m₁ = 3 ^ suc k} {n₂ = m} {m₂ = 3 ^ suc m} (omega arith) wider) wider)
+  where
+    wider : 3 ^ suc k ≤ 3 ^ suc m
+    wider = pow-le-pow-right {n = 3} (omega arith) {i = suc k} {j = suc m} le
+
+    numbers : (x y P Q : ℕ) → x ≤ y → P ≤ Q → x + P - (P - 1) / 2 ≤ y + Q - (Q - 1) / 2
+    numbers x y P Q h l = omega arith
+
+pub bound-few : (n : ℕ) → n ≤ 4 → bound n ≤ 284
+unfolding bound
+bound-few n le = bound-grows n 3 le
+
 pub bound-most : (n : ℕ) → n ≤ 6 → bound n ≤ 4010
 unfolding bound
-bound-most zero le = omega arith
-bound-most (suc m) le =
-    let odd : (2 * m + 1) * 3 ^ suc m ≤ 11 * 729 = mul-le-mul {n₁ = 2 * m + 1} {m₁ = 3 ^ suc m} {n₂ = 11} {m₂ = 729} (omega arith) (patterns-most (suc m) le) in
-    numbers m (3 ^ suc m) odd
-  where
-    numbers : (m P : ℕ) → (2 * m + 1) * P ≤ 11 * 729 → suc m * P - (P - 1) / 2 ≤ 4010
-    numbers m P h = omega arith
+bound-most n le = bound-grows n 5 le
 
 module _ (n : ℕ) (t : List ℕ) (lines : n ≤ 6) (perm : Permutation 3 n t) where
   pub synthesized-computes : (p : ℕ) → p < 3 ^ n → ran (synthesized n t) p ≡ getD t p 0
@@ -46,7 +57,7 @@ module _ (n : ℕ) (t : List ℕ) (lines : n ≤ 6) (perm : Permutation 3 n t) w
   made-gate : (g : Gate) → Made 3 applied gateFor n g → IsGate n g
   made-gate g m = rw (m .is) (is-gate n (m .k) (m .a) (m .d) lines (m .asked .line))
 
-  synthesized-gates : Each (IsGate n) (synthesized n t)
+  pub synthesized-gates : Each (IsGate n) (synthesized n t)
   unfolding synthesized
   synthesized-gates = each-imp (Made 3 applied gateFor n) (IsGate n) made-gate (synthesized n t) (gates-made 3 three-pos applied gateFor n (ternary n lines) t perm)
 

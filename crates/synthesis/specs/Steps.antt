@@ -1,14 +1,17 @@
 -- What the inner functions of synthesis do, in the words of the procedure.
-use Prim.Native.Nat.{ℕ, _+_, _*_, _≤_}
+use Prim.Native.Nat.{ℕ, _+_, _*_, _^_, _≤_, _<_}
 use mathlib.Core.Path.{_≡_}
-use mathlib.Core.List.{List, []}
-use lib.ListN.{length}
+use mathlib.Core.Bool.{cond}
+use mathlib.Core.List.{List, [], _∷_, _++_, map}
+use lib.Dec.{leb}
+use lib.ListN.{length, getD}
 use lib.Seq.{sets}
+use Rattle.ranges.specs.Ranges.{span}
+use Rattle.digits.specs.Digits.{digit, pack}
 use Rattle.gates.specs.declared.Gate.{Gate}
-use Rattle.gates.specs.Gates.{applied}
+use Rattle.gates.specs.Gates.{control, applied}
 use Rattle.tables.specs.Permutations.{Permutation, inverseTable}
 use Rattle.procedure.specs.Procedure.{State, digitStep, rowSteps, rows}
-use Rattle.cascades.specs.Cascades.{bytesOf}
 use Rattle.synthesis.specs.Synthesis.{gateFor}
 
 -- digit k of row i, the digits below k of row i, and the rows below i: each from the table t on, with no gate added before
@@ -32,7 +35,43 @@ pub record Reached (n : ℕ) (z : State Gate) (t v : List ℕ) : Type 0 where
   pub table : t ≡ z .table
   pub pair : Paired n t v
 
--- the records of the gates stand from record e up to record e′ of the room; all else is as it was
-pub record Lays (gs : List Gate) (e e′ : ℕ) (room room′ : List ℕ) : Type 0 where
+-- ---- patterns spread out
+
+-- the digits of a, a byte each; and 3 for none in the bytes of the lines from n up
+unfoldable pub spreadOf : ℕ → ℕ
+spreadOf a = pack 256 (λ j. digit 3 j a) 6
+
+unfoldable pub noneFrom : ℕ → ℕ
+noneFrom n = pack 256 (λ j. cond (leb n j) 3 0) 6
+
+-- l has the patterns of n lines, spread out
+pub record Spreads (n : ℕ) (l : List ℕ) : Type 0 where
+  pub size : length l ≡ 3 ^ n
+  pub each : (p : ℕ) → p < 3 ^ n → getD l p 0 ≡ spreadOf p
+
+-- digit k of row i, where the entry is a: d is the digit of a, and c that of i
+pub record Facing (n i k a d c : ℕ) : Type 0 where
+  pub few : n ≤ 6
+  pub row : i < 3 ^ n
+  pub entry : a < 3 ^ n
+  pub line : k < 6
+  pub from : d ≡ digit 3 k a
+  pub to : c ≡ digit 3 k i
+
+-- ---- records as numbers
+
+-- the number whose bytes are a gate's record, low byte first; the bytes of such a number, and of a list of them
+unfoldable pub wordOf : Gate → ℕ
+wordOf g = g .operator + 256 * (g .target + 256 * pack 256 (control g) 6)
+
+unfoldable pub bytesOfWord : ℕ → List ℕ
+bytesOfWord w = span (λ j. digit 256 j w) 0 8
+
+unfoldable pub bytesOfWords : List ℕ → List ℕ
+bytesOfWords [] = []
+bytesOfWords (w ∷ ws) = bytesOfWord w ++ bytesOfWords ws
+
+-- the words of the gates stand from place e up to place e′ of ws′; all else is as in ws
+pub record Lays (gs : List Gate) (e e′ : ℕ) (ws ws′ : List ℕ) : Type 0 where
   pub count : e + length gs ≡ e′
-  pub bytes : room′ ≡ sets room (8 * e) (bytesOf gs)
+  pub words : ws′ ≡ sets ws e (map wordOf gs)

@@ -8,6 +8,7 @@ ghost use Rattle.synthesis.specs.Synthesis.{bound, synthesizeAnswer, syn
 mod making;
 mod passes;
 mod settling;
+mod spreading;
 
 use cascades::Counted;
 use tables::Checked;
@@ -40,7 +41,6 @@ pub fn synthesize(lines: u8, table: &[u16], room: &mut [u8]) -> Counted
             place: asked,
         };
     }
-    let gates = passes::count_gates(n, table);
-    passes::write_gates(n, table, room, gates);
+    let gates = passes::write_gates(n, table, room);
     Counted::Gates(gates)
 }

@@ -1,13 +1,21 @@
-// The gate that is added where a digit differs.
+// What is made of one digit of a row: the entry that is to stand there, and the gate, as the number whose bytes are its record.
 ghost use mathlib.Core.Path.{_≡_};
-ghost use mathlib.Core.Bool.{cond, _||_};
-ghost use Prim.Native.Nat.{_<_};
-ghost use lib.Dec.{eqb, leb};
-ghost use Rattle.digits.specs.Digits.{pack};
-ghost use Rattle.synthesis.specs.Synthesis.{exchanger, controlFor, gateFor};
+ghost use Prim.Native.Nat.{_+_, _^_, _<_};
+ghost use Rattle.digits.specs.Digits.{digit, put};
+ghost use Rattle.synthesis.specs.Synthesis.{exchanger, gateFor};
+ghost use Rattle.synthesis.specs.Steps.{spreadOf, noneFrom, Facing, wordOf};
+
+// The entry a with the digit of i on line k.
+pub fn entry_for(n: usize, i: usize, k: usize, a: u16, d: u64, c: u64, weight: u16) -> u16
+    requires { ⌜ Facing n i k a d c ⌝ }
+    requires { ⌜ weight ≡ 3 ^ k ⌝ }
+    ensures { λ r. ⌜ r ≡ put 3 k a (digit 3 k i) ⌝ }
+{
+    a - (d as u16) * weight + (c as u16) * weight
+}
 
 // The operator that exchanges two digit values.
-fn exchanger_of(x: u16, y: u16) -> u8
+fn exchanger_of(x: u64, y: u64) -> u64
     requires { ⌜ (x < 3) × (y < 3) ⌝ }
     ensures { λ r. ⌜ r ≡ exchanger x y ⌝ }
 {
@@ -20,48 +28,11 @@ fn exchanger_of(x: u16, y: u16) -> u8
     5
 }
 
-// The control on line j, which holds x: none on the target k and from line n up.
-fn control_of(n: usize, k: usize, j: usize, x: u16) -> u16
-    ensures { λ r. ⌜ r ≡ cond (eqb j k || leb n j) 3 x ⌝ }
+// The gate that exchanges digit k of a with that of i. Its controls are s, the digits of a and none from line n up, but none on line k.
+pub fn word_for(n: usize, i: usize, k: usize, a: u16, d: u64, c: u64, byte: u64, s: u64) -> u64
+    requires { ⌜ Facing n i k a d c ⌝ }
+    requires { ⌜ (byte ≡ 256 ^ k) × (s ≡ spreadOf a + noneFrom n) ⌝ }
+    ensures { λ r. ⌜ (k < n → r ≡ wordOf (gateFor n k a (digit 3 k i))) ⌝ }
 {
-    if j == k {
-        return 3;
-    }
-    if n <= j {
-        return 3;
-    }
-    x
-}
-
-// The controls of the gate for digit k of a, packed in base 4.
-fn controls_for(n: usize, k: usize, a: u16) -> u16
-    ensures { λ r. ⌜ r ≡ pack 4 (controlFor n k a) 6 ⌝ }
-{
-    let mut packed: u16 = 0;
-    let mut w: u16 = 1;
-    let mut q = a;
-    let mut j: usize = 0;
-    while j < 6 {
-        let c = control_of(n, k, j, q % 3);
-        packed = packed + c * w;
-        w = w * 4;
-        q = q / 3;
-        j = j + 1;
-    }
-    packed
-}
-
-// The gate that exchanges digit k of a with d.
-pub fn gate_for(n: usize, k: usize, a: u16, d: u16) -> gates::Gate
-    requires { ⌜ (k < 6) × (d < 3) ⌝ }
-    ensures { λ r. ⌜ r ≡ gateFor n k a d ⌝ }
-{
-    let x = digits::digit_of(a, k);
-    let operator = exchanger_of(x, d);
-    let controls = controls_for(n, k, a);
-    gates::Gate {
-        operator: operator,
-        target: k as u8,
-        controls: controls,
-    }
+    exchanger_of(d, c) + 256 * (k as u64) + 65536 * (s - d * byte + 3 * byte)
 }

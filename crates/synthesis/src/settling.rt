@@ -1,85 +1,88 @@
-// One row of the procedure, digit by digit: counted, or written from the end of its gates' place in the room.
-// The inverse is kept beside the table, so that a gate exchanges two entries of each and looks at no others.
+// One row of the procedure, digit by digit. The inverse is kept beside the table, so that a gate exchanges two entries of each and looks at no others.
+// A gate's record is laid down as one number, right before the one found last, since the last gate found is the first of the cascade.
 ghost use mathlib.Core.Path.{_≡_};
-ghost use Prim.Native.Nat.{_*_, _^_, _≤_, _<_};
-ghost use lib.ListN.{length};
-ghost use Rattle.synthesis.specs.Steps.{stepFrom, rowFrom, Paired, Reached, Lays};
+ghost use Prim.Native.Nat.{_^_, _≤_, _<_};
+ghost use lib.ListN.{length, getD};
+ghost use Rattle.digits.specs.Digits.{digit, put};
+ghost use Rattle.synthesis.specs.Synthesis.{gateFor};
+ghost use Rattle.synthesis.specs.Steps.{stepFrom, rowFrom, Paired, Reached, noneFrom, Spreads, wordOf, Lays};
 
-// Digit k of row i: where the entry has another digit than i, it changes places with the one that differs from it in that digit alone.
-// Says how many gates that takes.
-fn step(n: usize, i: usize, k: usize, table: &mut [u16], inverse: &mut [u16]) -> usize
+// Digit k of row i, whose entry is a: where that digit is not the one of i, a changes places with b, which differs from it in that digit alone.
+// Says where the words begin now.
+fn settle(
+    n: usize,
+    i: usize,
+    k: usize,
+    a: u16,
+    b: u16,
+    word: u64,
+    table: &mut [u16],
+    inverse: &mut [u16],
+    words: &mut [u64],
+    end: usize,
+) -> usize
     requires { ⌜ Paired n (now table) (now inverse) ⌝ }
-    requires { ⌜ (i < 3 ^ n) × (k < n) ⌝ }
-    ensures { λ r. ⌜ (r ≡ length (stepFrom n i k (now (table .entry)) .found)) × Reached n (stepFrom n i k (now (table .entry))) (now (table .exit)) (now (inverse .exit)) ⌝ }
+    requires { ⌜ (i < 3 ^ n) × (a ≡ getD (now table) i 0) × (b ≡ put 3 k a (digit 3 k i)) ⌝ }
+    requires { ⌜ (k < n → word ≡ wordOf (gateFor n k a (digit 3 k i))) ⌝ }
+    requires { ⌜ length (stepFrom n i k (now table) .found) ≤ end ⌝ }
+    requires { ⌜ end ≤ length (now words) ⌝ }
+    ensures { λ r. ⌜ Lays (stepFrom n i k (now (table .entry)) .found) r end (now (words .entry)) (now (words .exit)) × Reached n (stepFrom n i k (now (table .entry))) (now (table .exit)) (now (inverse .exit)) ⌝ }
 {
-    let a = table[i];
-    let d = digits::digit_of(i as u16, k);
-    if digits::digit_of(a, k) == d {
-        return 0;
+    if a == b {
+        return end;
     }
-    let b = digits::with_digit(a, k, d);
     let y = inverse[b as usize];
     table[i] = b;
     table[y as usize] = a;
     inverse[a as usize] = y;
     inverse[b as usize] = i as u16;
-    1
-}
-
-// Row i. Says how many gates it takes.
-pub fn count_row(n: usize, i: usize, table: &mut [u16], inverse: &mut [u16]) -> usize
-    requires { ⌜ Paired n (now table) (now inverse) ⌝ }
-    requires { ⌜ i < 3 ^ n ⌝ }
-    ensures { λ r. ⌜ (r ≡ length (rowFrom n i n (now (table .entry)) .found)) × Reached n (rowFrom n i n (now (table .entry))) (now (table .exit)) (now (inverse .exit)) ⌝ }
-{
-    let mut c: usize = 0;
-    let mut k: usize = 0;
-    while k < n {
-        c += step(n, i, k, table, inverse);
-        k += 1;
-    }
-    c
-}
-
-// Digit k of row i: where a gate is added, its record goes right before record `end`, since the last gate found is the first of the cascade.
-// Says where the records begin now.
-fn emit(n: usize, i: usize, k: usize, table: &[u16], room: &mut [u8], end: usize) -> usize
-    requires { ⌜ (n ≤ 6) × (k < n) × (length (now table) ≡ 3 ^ n) × (i < 3 ^ n) ⌝ }
-    requires { ⌜ length (stepFrom n i k (now table) .found) ≤ end ⌝ }
-    requires { ⌜ 8 * end ≤ length (now room) ⌝ }
-    ensures { λ r. ⌜ Lays (stepFrom n i k (now (table .entry)) .found) r end (now (room .entry)) (now (room .exit)) ⌝ }
-{
-    let a = table[i];
-    let d = digits::digit_of(i as u16, k);
-    if digits::digit_of(a, k) == d {
-        return end;
-    }
     let next = end - 1;
-    let g = crate::making::gate_for(n, k, a, d);
-    gates::encode(g, room, 8 * next);
+    words[next] = word;
     next
 }
 
-// Row i, with its records up to record `end`. Says where the records begin now.
+// Row i, with its words up to place `end`. Says where the words begin now. What is left of the present and the wanted entry is their digits from line k up.
+// All six lines are looked at, since the compiler unrolls a loop of six: from line n up all digits are 0.
 pub fn write_row(
     n: usize,
     i: usize,
+    none: u64,
+    spread: &[u64],
     table: &mut [u16],
     inverse: &mut [u16],
-    room: &mut [u8],
+    words: &mut [u64],
     end: usize,
 ) -> usize
+    requires { ⌜ none ≡ noneFrom n ⌝ }
+    requires { ⌜ Spreads n (now spread) ⌝ }
     requires { ⌜ Paired n (now table) (now inverse) ⌝ }
     requires { ⌜ i < 3 ^ n ⌝ }
     requires { ⌜ length (rowFrom n i n (now table) .found) ≤ end ⌝ }
-    requires { ⌜ 8 * end ≤ length (now room) ⌝ }
-    ensures { λ r. ⌜ Lays (rowFrom n i n (now (table .entry)) .found) r end (now (room .entry)) (now (room .exit)) × Reached n (rowFrom n i n (now (table .entry))) (now (table .exit)) (now (inverse .exit)) ⌝ }
+    requires { ⌜ end ≤ length (now words) ⌝ }
+    ensures { λ r. ⌜ Lays (rowFrom n i n (now (table .entry)) .found) r end (now (words .entry)) (now (words .exit)) × Reached n (rowFrom n i n (now (table .entry))) (now (table .exit)) (now (inverse .exit)) ⌝ }
 {
+    let mut a = table[i];
+    if a as usize == i {
+        return end;
+    }
+    let mut present = spread[a as usize];
+    let mut wanted = spread[i];
     let mut e = end;
+    let mut weight: u16 = 1;
+    let mut byte: u64 = 1;
     let mut k: usize = 0;
-    while k < n {
-        e = emit(n, i, k, table, room, e);
-        step(n, i, k, table, inverse);
+    while k < 6 {
+        let d = present % 256;
+        let c = wanted % 256;
+        let b = crate::making::entry_for(n, i, k, a, d, c, weight);
+        let s = spread[a as usize] + none;
+        let word = crate::making::word_for(n, i, k, a, d, c, byte, s);
+        e = settle(n, i, k, a, b, word, table, inverse, words, e);
+        a = b;
+        present = present / 256;
+        wanted = wanted / 256;
+        weight = weight * 3;
+        byte = byte * 256;
         k += 1;
     }
     e

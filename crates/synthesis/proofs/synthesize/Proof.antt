@@ -48,20 +48,18 @@ room-asked-requires c κs = lines c
 returns-2 : tie.Need-returns-2
 returns-2 c = leaves-small _ _ _ (ok (c .before .before)) _ (c .before .room-asked .ensures) (c .if1 .taken)
 
-count-gates-requires : tie.Need-count-gates-requires
-count-gates-requires c κs = (lines (c .before .before), perm (c .before .before))
-
 write-gates-requires : tie.Need-write-gates-requires
 write-gates-requires c κs =
-    let d = c .before .before .before .before in
-    (lines d, (perm d, (c .before .count-gates .ensures, omega (arith, c .before .count-gates .ensures, synthesized-bound _ _ (lines d) (perm d), c .before .before .before .room-asked .ensures, c .before .before .if1 .left))))
+    let d = c .before .before .before in
+    (lines d, (perm d, omega (arith, synthesized-bound _ _ (lines d) (perm d), c .before .before .room-asked .ensures, c .before .if1 .left)))
 
 same-length : tie.Need-same-length
 same-length c = search needs
 
 returns-3 : tie.Need-returns-3
 returns-3 c =
-    leaves-cascade _ _ _ (ok (c .before .before .before .before .before .before .before)) _ (c .before .before .before .before .before .before .room-asked .ensures) (c .before .before .before .before .before .if1 .left) _ (c .before .before .before .before .count-gates .ensures) _ (c .before .before .write-gates .ensures)
+    let w = c .before .before .write-gates .ensures in
+    leaves-cascade _ _ _ (ok (c .before .before .before .before .before .before)) _ (c .before .before .before .before .before .room-asked .ensures) (c .before .before .before .before .if1 .left) _ (w .0) _ (w .1)
 
 pub synthesize-spec : {M : Type 1} → statement M
 synthesize-spec =
@@ -73,7 +71,6 @@ synthesize-spec =
     enum-told
     room-asked-requires
     returns-2
-    count-gates-requires
     write-gates-requires
     same-length
     returns-3)

@@ -1,48 +1,47 @@
--- `synthesis::passes::write_gates` meets its contract: a permutation has at most 729 entries, so two arrays of 729 hold it and its inverse. Assumes nothing.
-use denote.Ref.{now}
-use mathlib.Core.Path.{sym}
-use Prim.Native.Nat.{_≤_}
-use lib.ListN.{length}
-use lib.Seq.{length-take-le}
-use Rattle.synthesis.proofs.Copies.{entries-most}
+-- `synthesis::passes::write_gates` meets its contract: a cascade on four lines has at most 284 gates, and one on six at most 4,010. Assumes nothing.
+use native.Mathlib.Omega.{arith}
+use Rattle.synthesis.proofs.Synthesis.{synthesized-bound, bound-few, bound-most}
 use borrow.Author.Needs.{needs}
 use Rattle.synthesis.proofs.passes.write_gates.Statement.{statement}
 use Rattle.synthesis.proofs.passes.write_gates.Tie as tie
 
-most : (c : tie.Start) → length (now (c .args .given)) ≤ 729
-most c = entries-most _ _ (c .pre .0) (c .pre .1 .0)
+slice-aggregate-write-by : tie.Need-slice-aggregate-write-by
+slice-aggregate-write-by c = search needs
 
-array-borrow-prefix-table : tie.Need-array-borrow-prefix-table
-array-borrow-prefix-table c = most (c .before .before)
-
-slice-aggregate-write-in : tie.Need-slice-aggregate-write-in
-slice-aggregate-write-in c = sym (length-take-le _ _ (most (c .before .before .before)))
-
-array-borrow-prefix-inverse : tie.Need-array-borrow-prefix-inverse
-array-borrow-prefix-inverse c = most (c .before .before .before)
-
-slice-aggregate-write-in-2 : tie.Need-slice-aggregate-write-in-2
-slice-aggregate-write-in-2 c = sym (length-take-le _ _ (most (c .before .before .before .before)))
-
-write-in-requires : tie.Need-write-in-requires
-write-in-requires c κs =
+write-by-requires : tie.Need-write-by-requires
+write-by-requires c κs =
     let s = c .before .before .before .before .before in
-    (s .pre .0, (s .pre .1 .0, (length-take-le _ _ (most s), (length-take-le _ _ (most s), (s .pre .1 .1 .0, s .pre .1 .1 .1)))))
+    (s .pre .0, (s .pre .1 .0, (omega (arith, synthesized-bound _ _ (s .pre .0) (s .pre .1 .0), bound-few _ (c .before .before .if1 .taken)), s .pre .1 .1)))
 
 same-length : tie.Need-same-length
 same-length c = search needs
 
 returns : tie.Need-returns
-returns c = c .before .before .before .before .write-in .ensures
+returns c = search needs
+
+slice-aggregate-write-by-2 : tie.Need-slice-aggregate-write-by-2
+slice-aggregate-write-by-2 c = search needs
+
+write-by-requires-2 : tie.Need-write-by-requires-2
+write-by-requires-2 c κs =
+    let s = c .before .before .before .before .before in
+    (s .pre .0, (s .pre .1 .0, (omega (arith, synthesized-bound _ _ (s .pre .0) (s .pre .1 .0), bound-most _ (s .pre .0)), s .pre .1 .1)))
+
+same-length-2 : tie.Need-same-length-2
+same-length-2 c = search needs
+
+returns-2 : tie.Need-returns-2
+returns-2 c = search needs
 
 pub write-gates-spec : {M : Type 1} → statement M
 write-gates-spec =
     tie.close
     (tie.spec
-    array-borrow-prefix-table
-    slice-aggregate-write-in
-    array-borrow-prefix-inverse
-    slice-aggregate-write-in-2
-    write-in-requires
+    slice-aggregate-write-by
+    write-by-requires
     same-length
-    returns)
+    returns
+    slice-aggregate-write-by-2
+    write-by-requires-2
+    same-length-2
+    returns-2)

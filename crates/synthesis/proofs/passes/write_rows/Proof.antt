@@ -1,38 +1,39 @@
--- `synthesis::passes::write_rows` meets its contract: after i rows the tables are those of the procedure, and its gates' records stand up to the last.
+-- `synthesis::passes::write_rows` meets its contract: after i rows the tables are those of the procedure, and its gates' words stand up to the end.
 -- Assumes nothing.
 use denote.Ref.{now}
 use mathlib.Core.Path.{_≡_}
 use mathlib.Core.List.{List}
 use Prim.Native.Nat.{ℕ, _-_, _^_, _≤_, _<_}
+use lib.ListN.{length}
 use borrow.Author.Needs.{needs}
 use native.Mathlib.Omega.{arith}
 use Rattle.synthesis.specs.Steps.{rowsFrom, Reached, Lays}
 use Rattle.synthesis.proofs.Moves.{sized, row-below, same-sizes, rows-none, rows-found, rows-room, rows-more, rows-all}
-use Rattle.synthesis.proofs.Layings.{lays-none, lays-more, lays-length, lays-all}
+use Rattle.synthesis.proofs.Layings.{lays-none, lays-more, lays-length}
 use Rattle.synthesis.proofs.passes.write_rows.Statement.{statement}
 use Rattle.synthesis.proofs.passes.write_rows.Tie as tie
 
-record Going (n : ℕ) (t₀ r₀ : List ℕ) (total : ℕ) (t v r : List ℕ) (e i : ℕ) : Type 0 where
+record Going (n : ℕ) (t₀ ws₀ : List ℕ) (t v ws : List ℕ) (e i : ℕ) : Type 0 where
   within : i ≤ 3 ^ n
   at : Reached n (rowsFrom n i t₀) t v
-  laid : Lays (rowsFrom n i t₀ .found) e total r₀ r
+  laid : Lays (rowsFrom n i t₀ .found) e (length ws₀) ws₀ ws
 
 abbrev Inv-loop : tie.InvT-loop
-Inv-loop n table₀ inverse₀ room₀ total end₀ i₀ table inverse room end i = Going n table₀ room₀ total table inverse room end i
+Inv-loop n none spread table₀ inverse₀ words₀ end₀ i₀ table inverse words end i = Going n table₀ words₀ table inverse words end i
 
 abbrev μ-loop : tie.MeasureT-loop
-μ-loop n table₀ inverse₀ room₀ total end₀ i₀ table inverse room end i = 3 ^ n - i
+μ-loop n none spread table₀ inverse₀ words₀ end₀ i₀ table inverse words end i = 3 ^ n - i
 
 -- there is a row left
 module _ (c : tie.In-loop Inv-loop μ-loop) where
   abbrev start : tie.Start Inv-loop μ-loop
-  start = c .before .before .before .before .before
+  start = c .before .before .before .before .before .before
 
   row : c .before .loop .i < 3 ^ (start .args .n)
   row = row-below _ _ _ _ (c .before .loop .inv .at .pair) (c .loop-test .taken)
 
   few : 3 ^ (start .args .n) ≤ 729
-  few = sized _ _ _ (start .pre .0) .few
+  few = sized _ _ _ (start .pre .1 .1 .0) .few
 
 module _ (c : tie.After-slice-known6 Inv-loop μ-loop) where
   abbrev turn : tie.In-loop Inv-loop μ-loop
@@ -40,18 +41,27 @@ module _ (c : tie.After-slice-known6 Inv-loop μ-loop) where
 
 loop-holds : tie.Need-loop-holds Inv-loop μ-loop
 loop-holds c =
-    let s = c .before .before .before in
-    let none = rows-none (s .args .n) (now (s .args .table)) (now (s .args .inverse)) (s .pre .0) in
+    let s = c .before .before .before .before in
+    let none = rows-none (s .args .n) (now (s .args .table)) (now (s .args .inverse)) (s .pre .1 .1 .0) in
     record { within = search needs; at = none .1; laid = rw (none .0) (lays-none _ _) }
 
 write-row-requires : tie.Need-write-row-requires Inv-loop μ-loop
 write-row-requires c κs =
     let t = c .before .before .before in
     let g = t .before .loop .inv in (
-      g .at .pair,
+      start t .pre .0,
       (
-        row t,
-        (rows-room _ _ _ _ _ (g .at) _ _ (row t) (start t .pre .1 .0) (g .laid .count), omega (arith, g .laid .count, lays-length _ _ _ _ _ (g .laid), start t .pre .1 .1)),
+        start t .pre .1 .0,
+        (
+          g .at .pair,
+          (
+            row t,
+            (
+              rows-room _ _ _ _ _ (g .at) _ _ (row t) (start t .pre .1 .1 .1) (g .laid .count),
+              omega (arith, g .laid .count, lays-length _ _ _ _ _ (g .laid)),
+            ),
+          ),
+        ),
       ),
     )
 
@@ -72,10 +82,10 @@ loop-again c =
     }
 
 same-length : tie.Need-same-length Inv-loop μ-loop
-same-length c = same-sizes _ _ _ _ _ (c .before .before .before .before .before .pre .0) (c .before .loop .inv .at .pair) .0
+same-length c = same-sizes _ _ _ _ _ (c .before .before .before .before .before .before .pre .1 .1 .0) (c .before .loop .inv .at .pair) .0
 
 same-length-2 : tie.Need-same-length-2 Inv-loop μ-loop
-same-length-2 c = same-sizes _ _ _ _ _ (c .before .before .before .before .before .pre .0) (c .before .loop .inv .at .pair) .1
+same-length-2 c = same-sizes _ _ _ _ _ (c .before .before .before .before .before .before .pre .1 .1 .0) (c .before .loop .inv .at .pair) .1
 
 same-length-3 : tie.Need-same-length-3 Inv-loop μ-loop
 same-length-3 c = lays-length _ _ _ _ _ (c .before .loop .inv .laid)
@@ -83,9 +93,9 @@ same-length-3 c = lays-length _ _ _ _ _ (c .before .loop .inv .laid)
 returns : tie.Need-returns Inv-loop μ-loop
 returns c =
     let g = c .before .loop .inv in
-    let s = c .before .before .before .before .before in
+    let s = c .before .before .before .before .before .before in
     let all : c .before .loop .i ≡ 3 ^ (s .args .n) = omega (arith, g .within, g .at .pair .perm .size, c .loop-test .left) in
-    lays-all _ _ _ _ _ (s .pre .1 .0) (s .pre .1 .1) (rw (rows-all _ _ (now (s .args .table)) all) at (g .laid))
+    rw (rows-all _ _ (now (s .args .table)) all) at (g .laid)
 
 pub write-rows-spec : {M : Type 1} → statement M
 write-rows-spec =

@@ -1,88 +1,231 @@
--- `synthesis::settling::write_row` meets its contract: after k digits the tables are those of the procedure, and its gates' records stand before the end.
--- Assumes nothing.
+-- `synthesis::settling::write_row` meets its contract: after k digits the tables are those of the procedure, its gates' words stand before the end, and of the
+-- row's first entry and of i the bytes from k on are left. Assumes nothing.
 use denote.Ref.{now}
-use mathlib.Core.Path.{_≡_}
+use mathlib.Core.Path.{_≡_, refl, sym, ap, _∙_}
 use mathlib.Core.List.{List}
-use Prim.Native.Nat.{ℕ, _-_, _≤_}
+use Prim.Native.Nat.{ℕ, _+_, _-_, _*_, _/_, _%_, _^_, _≤_, _<_}
+use native.Mathlib.Nat.{pow-suc, pow-le-pow-right, le-refl}
+use native.Mathlib.Numerals.{add-one}
+use lib.ListN.{length, getD}
 use borrow.Author.Needs.{needs}
 use native.Mathlib.Omega.{arith}
-use Rattle.synthesis.specs.Steps.{stepFrom, rowFrom, Reached, Lays}
-use Rattle.synthesis.proofs.Moves.{same-sizes, row-none, row-found, row-room, row-more}
+use Rattle.digits.specs.Digits.{digit}
+use Rattle.digits.proofs.Digits.{digit-lt, digit-put-other, shift-start, shift-digit, shift-next}
+use Rattle.digits.proofs.Sizes.{three-pos, patterns-most}
+use Rattle.synthesis.specs.Steps.{rowFrom, Reached, spreadOf, noneFrom, Spreads, Facing, Lays}
+use Rattle.synthesis.proofs.Spreads.{spread-digit, spread-small, none-small}
+use Rattle.synthesis.proofs.Moves.{Sized, sized, same-sizes, step-entry, row-settled, row-none, row-found, row-more, row-past, row-room}
 use Rattle.synthesis.proofs.Layings.{lays-none, lays-more, lays-length}
 use Rattle.synthesis.proofs.settling.write_row.Statement.{statement}
 use Rattle.synthesis.proofs.settling.write_row.Tie as tie
 
-record Going (n i : ℕ) (t₀ r₀ : List ℕ) (end : ℕ) (t v r : List ℕ) (e k : ℕ) : Type 0 where
-  within : k ≤ n
+record Going (n i none : ℕ) (sp t₀ ws₀ : List ℕ) (end : ℕ) (t v ws : List ℕ) (a x z e w u k : ℕ) : Type 0 where
+  below : i < 3 ^ n
+  bare : none ≡ noneFrom n
+  spreads : Spreads n sp
+  fits : length (rowFrom n i n t₀ .found) ≤ end
+  room : end ≤ length ws₀
   at : Reached n (rowFrom n i k t₀) t v
-  laid : Lays (rowFrom n i k t₀ .found) e end r₀ r
+  past : n ≤ k → rowFrom n i k t₀ ≡ rowFrom n i n t₀
+  laid : Lays (rowFrom n i k t₀ .found) e end ws₀ ws
+  entry : a ≡ getD t i 0
+  same : (j : ℕ) → k ≤ j → digit 3 j a ≡ digit 3 j (getD t₀ i 0)
+  from : x ≡ spreadOf (getD t₀ i 0) / 256 ^ k
+  to : z ≡ spreadOf i / 256 ^ k
+  weight : w ≡ 3 ^ k
+  byte : u ≡ 256 ^ k
 
 abbrev Inv-loop : tie.InvT-loop
-Inv-loop n i table₀ inverse₀ room₀ end e₀ k₀ table inverse room e k = Going n i table₀ room₀ end table inverse room e k
+Inv-loop n i none spread table₀ inverse₀ words₀ end a₀ x₀ z₀ e₀ w₀ v₀ k₀ table inverse words a x z e w v k =
+    Going n i none spread table₀ words₀ end table inverse words a x z e w v k
 
 abbrev μ-loop : tie.MeasureT-loop
-μ-loop n i table₀ inverse₀ room₀ end e₀ k₀ table inverse room e k = n - k
+μ-loop n i none spread table₀ inverse₀ words₀ end a₀ x₀ z₀ e₀ w₀ v₀ k₀ table inverse words a x z e w v k = 6 - k
 
-module _ (c : tie.After-slice-known6 Inv-loop μ-loop) where
-  abbrev turn : tie.In-loop Inv-loop μ-loop
-  turn = c .before .before .before .before .before .before .before .before .before .before .before .before
+-- what a turn needs of its numbers
+record Turn (n i none : ℕ) (sp : List ℕ) (a x z w u k : ℕ) : Type 0 where
+  facing : Facing n i k a (x % 256) (z % 256)
+  pattern : a < 729
+  stands : a < length sp
+  shown : getD sp a 0 + none ≡ spreadOf a + noneFrom n
+  small : getD sp a 0 + none < 7 * 256 ^ 5
+  weight : w ≤ 243
+  byte : u ≤ 256 ^ 5
 
+turning : (n i none : ℕ) (sp t₀ ws₀ : List ℕ) (end : ℕ) (t v ws : List ℕ) (a x z e w u k : ℕ) → Going n i none sp t₀ ws₀ end t v ws a x z e w u k → k < 6
+    → Turn n i none sp a x z w u k
+turning n i none sp t₀ ws₀ end t v ws a x z e w u k g lt =
+    let old : a < 3 ^ n = rw (g .entry) (g .at .pair .perm .within i (g .below)) in
+    record {
+      facing =
+          record {
+            few = g .at .pair .lines;
+            row = g .below;
+            entry = old;
+            line = lt;
+            from = shift-digit 256 k (spreadOf (getD t₀ i 0)) x (g .from) ∙ spread-digit (getD t₀ i 0) k lt ∙ sym (g .same k (le-refl k));
+            to = shift-digit 256 k (spreadOf i) z (g .to) ∙ spread-digit i k lt;
+          };
+      pattern = omega (arith, patterns-most n (g .at .pair .lines));
+      stands = omega (arith, g .spreads .size);
+      shown = rw (g .spreads .each a old, g .bare);
+      small = rw (g .spreads .each a old, g .bare) (omega (arith, spread-small a, none-small n));
+      weight = rw (g .weight) (pow-le-pow-right {n = 3} (omega arith) {i = k} {j = 5} (omega arith));
+      byte = rw (g .byte) (pow-le-pow-right {n = 256} (omega arith) {i = k} {j = 5} (omega arith));
+    }
+
+module _ (c : tie.In-loop Inv-loop μ-loop) where
   abbrev start : tie.Start Inv-loop μ-loop
-  start = turn .before .before .before .before .before
+  start = c .before .before .before .before .before .before .before .before .before .before
+
+  turn : Turn (start .args .n) (start .args .i) (start .args .none) (now (start .args .spread)) (c .before .loop .a) (c .before .loop .present) (c .before .loop .wanted) (c .before .loop .weight) (c .before .loop .byte) (c .before .loop .k)
+  turn = turning _ _ _ _ _ _ _ _ _ _ _ _ _ _ _ _ _ (c .before .loop .inv) (c .loop-test .taken)
+
+module _ (c : tie.After-slice-known7 Inv-loop μ-loop) where
+  abbrev state : tie.In-loop Inv-loop μ-loop
+  state = c .before .before .before .before .before .before .before .before .before .before .before .before .before
+
+-- before the loop: row i stands in the table, and its entry among the spread patterns
+module _ (s : tie.Start Inv-loop μ-loop) where
+  sizes : Sized (s .args .n) (now (s .args .table)) (now (s .args .inverse))
+  sizes = sized _ _ _ (s .pre .1 .1 .0)
+
+  old : getD (now (s .args .table)) (s .args .i) 0 < 3 ^ (s .args .n)
+  old = s .pre .1 .1 .0 .perm .within _ (s .pre .1 .1 .1 .0)
+
+mul-a : tie.Need-mul-a Inv-loop μ-loop
+mul-a c = search needs
+
+slice-read-a : tie.Need-slice-read-a Inv-loop μ-loop
+slice-read-a c = let s = c .before .before .before .before .before in omega (arith, sizes s, s .pre .1 .1 .1 .0)
+
+cast-if1 : tie.Need-cast-if1 Inv-loop μ-loop
+cast-if1 c = let s = c .before .before .before .before .before in omega (arith, old s, sizes s)
+
+returns : tie.Need-returns Inv-loop μ-loop
+returns c =
+    let s = c .before .before .before .before .before .before in
+    rw (row-settled (s .args .n) (s .args .i) (now (s .args .table)) (c .if1 .taken) (s .args .n)) (lays-none _ _, record { table = refl; pair = s .pre .1 .1 .0 })
+
+cast-present : tie.Need-cast-present Inv-loop μ-loop
+cast-present c = let s = c .before .before .before .before .before .before in omega (arith, old s, sizes s)
+
+mul-present : tie.Need-mul-present Inv-loop μ-loop
+mul-present c = let s = c .before .before .before .before .before .before in omega (arith, old s, sizes s)
+
+shared-slice-read-present : tie.Need-shared-slice-read-present Inv-loop μ-loop
+shared-slice-read-present c = let s = c .before .before .before .before .before .before .before in omega (arith, old s, s .pre .1 .0 .size)
+
+mul-wanted : tie.Need-mul-wanted Inv-loop μ-loop
+mul-wanted c = search needs
+
+shared-slice-read-wanted : tie.Need-shared-slice-read-wanted Inv-loop μ-loop
+shared-slice-read-wanted c = let s = c .before .before .before .before .before .before .before .before in omega (arith, s .pre .1 .1 .1 .0, s .pre .1 .0 .size)
 
 loop-holds : tie.Need-loop-holds Inv-loop μ-loop
 loop-holds c =
-    let s = c .before .before .before in
-    let none = row-none (s .args .n) (s .args .i) (now (s .args .table)) (now (s .args .inverse)) (s .pre .0) in
-    record { within = search needs; at = none .1; laid = rw (none .0) (lays-none _ _) }
+    let s = c .before .before .before .before .before .before .before .before in
+    let none = row-none (s .args .n) (s .args .i) (now (s .args .table)) (now (s .args .inverse)) (s .pre .1 .1 .0) in
+    record {
+      below = s .pre .1 .1 .1 .0;
+      bare = s .pre .0;
+      spreads = s .pre .1 .0;
+      fits = s .pre .1 .1 .1 .1 .0;
+      room = s .pre .1 .1 .1 .1 .1;
+      at = none .1;
+      past = λ le. ap (λ (m : ℕ). rowFrom (s .args .n) (s .args .i) m (now (s .args .table))) (omega arith);
+      laid = rw (none .0) (lays-none _ _);
+      entry = refl;
+      same = λ j le. refl;
+      from = s .pre .1 .0 .each _ (old s) ∙ shift-start 256 _;
+      to = s .pre .1 .0 .each _ (s .pre .1 .1 .1 .0) ∙ shift-start 256 _;
+      weight = refl;
+      byte = refl;
+    }
 
-emit-requires : tie.Need-emit-requires Inv-loop μ-loop
-emit-requires c κs =
-    let s = c .before .before .before .before .before .before .before in
-    let g = c .before .before .before .loop .inv in
-    let lt = c .before .before .loop-test .taken in (
-      (s .pre .0 .lines, lt, g .at .pair .perm .size, s .pre .1 .0),
+entry-for-requires : tie.Need-entry-for-requires Inv-loop μ-loop
+entry-for-requires c κs = (turn c .facing, c .before .loop .inv .weight)
+
+cast-s : tie.Need-cast-s Inv-loop μ-loop
+cast-s c = omega (arith, turn (c .before) .pattern)
+
+mul-s : tie.Need-mul-s Inv-loop μ-loop
+mul-s c = omega (arith, turn (c .before) .pattern)
+
+shared-slice-read-s : tie.Need-shared-slice-read-s Inv-loop μ-loop
+shared-slice-read-s c = omega (arith, turn (c .before .before) .stands)
+
+add-s : tie.Need-add-s Inv-loop μ-loop
+add-s c = omega (arith, turn (c .before .before) .small)
+
+word-for-requires : tie.Need-word-for-requires Inv-loop μ-loop
+word-for-requires c κs = let d = c .before .before in (turn d .facing, (d .before .loop .inv .byte, turn d .shown))
+
+settle-requires : tie.Need-settle-requires Inv-loop μ-loop
+settle-requires c κs =
+    let d = c .before .before .before .before .before .before in
+    let g = d .before .loop .inv in (
+      g .at .pair,
       (
-        row-room _ _ _ _ _ _ (g .at) _ _ lt (g .laid .count) (s .pre .1 .1 .0),
-        omega (arith, g .laid .count, lays-length _ _ _ _ _ (g .laid), s .pre .1 .1 .1),
+        (g .below, g .entry, c .before .before .before .before .before .entry-for .ensures),
+        (
+          c .before .before .before .word-for .ensures,
+          (
+            row-room _ _ _ _ _ _ (g .at) (g .below) (g .past) _ _ (g .laid .count) (g .fits),
+            omega (arith, g .laid .count, lays-length _ _ _ _ _ (g .laid), g .room),
+          ),
+        ),
       ),
     )
 
-step-requires : tie.Need-step-requires Inv-loop μ-loop
-step-requires c κs =
-    let t = c .before .before .before .before .before .before .before in
-    (t .before .loop .inv .at .pair, (t .before .before .before .before .before .pre .1 .0, t .loop-test .taken))
+mul-weight : tie.Need-mul-weight Inv-loop μ-loop
+mul-weight c = omega (arith, turn (state c) .weight)
+
+mul-byte : tie.Need-mul-byte Inv-loop μ-loop
+mul-byte c = omega (arith, turn (state c) .byte)
 
 add-k : tie.Need-add-k Inv-loop μ-loop
-add-k c = omega (arith, turn c .loop-test .taken, start c .pre .0 .lines)
+add-k c = omega (arith, state c .loop-test .taken)
 
 loop-less : tie.Need-loop-less Inv-loop μ-loop
-loop-less c = omega (arith, turn c .loop-test .taken)
+loop-less c = omega (arith, state c .loop-test .taken)
 
 loop-again : tie.Need-loop-again Inv-loop μ-loop
 loop-again c =
-    let g = turn c .before .loop .inv in
+    let g = state c .before .loop .inv in
+    let eb = c .before .before .before .before .before .before .before .before .before .before .before .before .entry-for .ensures in
+    let settled = c .before .before .before .before .before .before .settle .ensures in
     record {
-      within = omega (arith, turn c .loop-test .taken);
-      at = row-more _ _ _ _ _ _ (g .at) _ _ (c .before .before .before .before .step .ensures .1);
-      laid =
-          rw (row-found _ _ _ _ _ _ (g .at))
-          (lays-more _ (stepFrom (start c .args .n) (start c .args .i) (turn c .before .loop .k) (turn c .before .loop .table) .found) _ _ _ _ _ _ (g .laid) (c .before .before .before .before .before .before .before .before .before .emit .ensures));
+      below = g .below;
+      bare = g .bare;
+      spreads = g .spreads;
+      fits = g .fits;
+      room = g .room;
+      at = row-more _ _ _ _ _ _ (g .at) _ _ (settled .1);
+      past = row-past _ _ _ _ _ _ (g .at) (g .below) (g .past);
+      laid = rw (row-found _ _ _ _ _ _ (g .at)) (lays-more _ _ _ _ _ _ _ _ (g .laid) (settled .0));
+      entry = step-entry _ _ _ _ _ _ _ (g .at .pair) (g .below) (g .entry) eb ∙ ap (λ (l : List ℕ). getD l (start (state c) .args .i) 0) (sym (settled .1 .table));
+      same = λ j le. ap (digit 3 j) eb ∙ digit-put-other 3 j _ _ _ (digit-lt 3 _ _ three-pos) (λ e. omega arith) ∙ g .same j (omega arith);
+      from = shift-next 256 _ _ _ (g .from);
+      to = shift-next 256 _ _ _ (g .to);
+      weight = rw (add-one, pow-suc) (ap (λ (x : ℕ). x * 3) (g .weight));
+      byte = rw (add-one, pow-suc) (ap (λ (x : ℕ). x * 256) (g .byte));
     }
 
 same-length : tie.Need-same-length Inv-loop μ-loop
-same-length c = same-sizes _ _ _ _ _ (c .before .before .before .before .before .pre .0) (c .before .loop .inv .at .pair) .0
+same-length c = same-sizes _ _ _ _ _ (c .before .before .before .before .before .before .before .before .before .before .pre .1 .1 .0) (c .before .loop .inv .at .pair) .0
 
 same-length-2 : tie.Need-same-length-2 Inv-loop μ-loop
-same-length-2 c = same-sizes _ _ _ _ _ (c .before .before .before .before .before .pre .0) (c .before .loop .inv .at .pair) .1
+same-length-2 c = same-sizes _ _ _ _ _ (c .before .before .before .before .before .before .before .before .before .before .pre .1 .1 .0) (c .before .loop .inv .at .pair) .1
 
 same-length-3 : tie.Need-same-length-3 Inv-loop μ-loop
 same-length-3 c = lays-length _ _ _ _ _ (c .before .loop .inv .laid)
 
-returns : tie.Need-returns Inv-loop μ-loop
-returns c =
-    let e : c .before .loop .k ≡ c .before .before .before .before .before .args .n = omega (arith, c .before .loop .inv .within) in
-    (rw e at (c .before .loop .inv .laid), rw e at (c .before .loop .inv .at))
+returns-2 : tie.Need-returns-2 Inv-loop μ-loop
+returns-2 c =
+    let g = c .before .loop .inv in
+    let all = g .past (omega (arith, c .loop-test .left, g .at .pair .lines)) in
+    (rw all at (g .laid), rw all at (g .at))
 
 pub write-row-spec : {M : Type 1} → statement M
 write-row-spec =
@@ -90,13 +233,29 @@ write-row-spec =
     (tie.spec
     Inv-loop
     μ-loop
+    mul-a
+    slice-read-a
+    cast-if1
+    returns
+    cast-present
+    mul-present
+    shared-slice-read-present
+    mul-wanted
+    shared-slice-read-wanted
     loop-holds
-    emit-requires
-    step-requires
+    entry-for-requires
+    cast-s
+    mul-s
+    shared-slice-read-s
+    add-s
+    word-for-requires
+    settle-requires
+    mul-weight
+    mul-byte
     add-k
     loop-less
     loop-again
     same-length
     same-length-2
     same-length-3
-    returns)
+    returns-2)
