@@ -1,12 +1,11 @@
-// Gates: what an operator does, when a gate fires, what it does to a pattern, its inverse, and its record of 8 bytes.
+// Gates: what an operator does, its inverse, and the record of 8 bytes; `words` has when a gate fires and what it does.
 ghost use mathlib.Core.Path.{_≡_};
 ghost use Prim.Native.Nat.{_+_, _≤_, _<_};
 ghost use lib.ListN.{length};
 ghost use lib.Seq.{sets};
-ghost use Rattle.gates.specs.Gates.{act, inverseOp, applied};
+ghost use Rattle.gates.specs.Gates.{act, inverseOp};
 ghost use Rattle.gates.specs.Records.{decoded, recordOf};
 
-mod controls;
 pub mod words;
 
 // A gate: the controls of x0 to x5 are packed in base 4, 3 for none.
@@ -47,20 +46,6 @@ pub fn invert_op(operator: u8) -> u8
     ensures { λ r. ⌜ r ≡ inverseOp operator ⌝ }
 {
     if operator < 3 { 3 - operator } else { operator }
-}
-
-// The pattern after the gate.
-pub fn apply(g: Gate, p: u16) -> u16
-    requires { ⌜ (g .target < 6) × (p < 729) ⌝ }
-    ensures { λ r. ⌜ r ≡ applied g p ⌝ }
-{
-    if controls::fires_on(g.controls, p) {
-        let t = g.target as usize;
-        let x = digits::digit_of(p, t);
-        digits::with_digit(p, t, act_on(g.operator, x))
-    } else {
-        p
-    }
 }
 
 // The record at a place: a gate on so many lines, or a refusal.
