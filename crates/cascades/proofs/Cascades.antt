@@ -61,24 +61,3 @@ run-snoc b i p =
     (through-cons applied (gateOf b i) [] (ran (span (gateOf b) 0 i) p) ∙ through-nil applied (applied (gateOf b i) (ran (span (gateOf b) 0 i) p)))
 
 -- ---- a whole table: entry p after the first i records is what they make of p
-
-abbrev pub tableAfter : ℕ → List ℕ → ℕ → List ℕ
-tableAfter n b i = span (λ p. ran (span (gateOf b) 0 i) p) 0 (3 ^ n)
-
-pub table-start : (n : ℕ) (b : List ℕ) → span (λ p. p) 0 (3 ^ n) ≡ tableAfter n b 0
-table-start n b = span-ext (λ p. p) (λ p. ran (span (gateOf b) 0 0) p) 0 (3 ^ n) (λ p le lt. sym (rw (span-none (gateOf b) 0) (through-nil applied p)))
-
-pub table-next : (n : ℕ) (b : List ℕ) (i : ℕ) → map (applied (gateOf b i)) (tableAfter n b i) ≡ tableAfter n b (i + 1)
-table-next n b i =
-    map-span (applied (gateOf b i)) (λ p. ran (span (gateOf b) 0 i) p) 0 (3 ^ n)
-    ∙ span-ext (λ p. applied (gateOf b i) (ran (span (gateOf b) 0 i) p)) (λ p. ran (span (gateOf b) 0 (i + 1)) p) 0 (3 ^ n) (λ p le lt. sym (run-snoc b i p))
-
-pub table-end : (n : ℕ) (b : List ℕ) → tableAfter n b (records b) ≡ tableOf n (gatesOf b)
-unfolding tableOf gatesOf
-table-end n b = refl
-
--- its entries are patterns
-pub table-lt : (n : ℕ) (b : List ℕ) (m i p : ℕ) → Whole n b m → i ≤ m → p < 3 ^ n → getD (tableAfter n b i) p 0 < 3 ^ n
-table-lt n b m i p w le lt =
-    let each = span-each (IsGate n) (gateOf b) 0 i (λ k le′ lt′. gate-at n b (8 * k) (lines-are n (w .lines) .1) (w .each k (omega (arith, le)))) in
-    rw (span-at (λ p. ran (span (gateOf b) 0 i) p) 0 (3 ^ n) p 0 lt, zero-add p) (run-lt n (span (gateOf b) 0 i) p each lt)
