@@ -1,6 +1,6 @@
 -- The bits of words: what the operations of planes do at each bit. They rest on one step: bit i of an operation's result is the operation on the
 -- bits i. Assumes nothing.
-use mathlib.Core.Path.{_≡_, refl, sym, ap, _∙_}
+use mathlib.Core.Path.{_≡_, refl, ap, _∙_}
 use mathlib.Core.Bool.{Bool, true, false, cond, not, xor, _&&_, _||_}
 use Prim.Native.Nat.{ℕ, zero, suc, _/_, _%_, _^_, _<_}
 use native.Mathlib.Omega.{arith}

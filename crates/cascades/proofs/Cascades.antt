@@ -1,22 +1,21 @@
 -- What a list of gates computes: it stays within the patterns of its lines; and one turn of a loop that runs over the records. Assumes nothing.
-use mathlib.Core.Path.{_≡_, refl, sym, ap, _∙_}
-use mathlib.Core.Bool.{Bool, true, false, not}
-use mathlib.Core.List.{List, [], _∷_, _++_, map}
-use Prim.Native.Nat.{ℕ, zero, suc, _+_, _-_, _*_, _/_, _^_, _≤_, _<_}
+use mathlib.Core.Path.{_≡_, sym, _∙_}
+use mathlib.Core.List.{List, [], _∷_, _++_}
+use Prim.Native.Nat.{ℕ, suc, _+_, _-_, _*_, _^_, _≤_, _<_}
 use native.Mathlib.Nat.{zero-add}
 use native.Mathlib.Omega.{arith}
-use lib.ListN.{length, getD}
+use lib.ListN.{length}
 use Rattle.ranges.specs.Ranges.{span}
 use Rattle.ranges.specs.Lists.{Each, through}
 use Rattle.ranges.proofs.Lists.{through-nil, through-cons, through-append}
-use Rattle.ranges.proofs.Spans.{length-span, span-at, span-none, span-more, span-ends, span-snoc, span-ext, span-each, map-span}
+use Rattle.ranges.proofs.Spans.{length-span, span-more, span-ends, span-snoc, span-each}
 use Rattle.card.proofs.Cards.{lines-are}
 use Rattle.gates.specs.declared.Gate.{Gate}
 use Rattle.gates.specs.Gates.{applied, IsGate}
-use Rattle.gates.specs.Records.{isRecord, gateAt}
+use Rattle.gates.specs.Records.{gateAt}
 use Rattle.gates.proofs.Gates.{applied-lt}
 use Rattle.gates.proofs.Records.{gate-at}
-use Rattle.cascades.specs.Cascades.{records, gatesOf, ran, tableOf, Whole, Cascade}
+use Rattle.cascades.specs.Cascades.{records, gatesOf, ran, Whole, Cascade}
 
 -- gate i of a list of bytes
 abbrev pub gateOf : List ℕ → ℕ → Gate

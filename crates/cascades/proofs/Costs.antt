@@ -1,15 +1,13 @@
 -- Prices: the base price by its cases, how large a price can be, the price of an appended list. `cost-fits` bounds the cost of any cascade.
 -- Assumes nothing.
-use mathlib.Core.Path.{_≡_, refl, sym, ap, _∙_}
+use mathlib.Core.Path.{_≡_, refl, ap}
 use mathlib.Core.Logic.{_⊎_, ⊎-elim}
 use mathlib.Core.Bool.{Bool, true, false, cond, _||_}
-use mathlib.Core.List.{List, [], _∷_, _++_}
+use mathlib.Core.List.{List, _++_}
 use Prim.Native.Nat.{ℕ, zero, suc, _+_, _-_, _*_, _≤_, _<_}
 use native.Mathlib.Nat.{add-assoc, add-zero}
 use native.Mathlib.Omega.{arith}
 use lib.Dec.{eqb}
-use lib.ListN.{length}
-use borrow.Author.Tests.{eq-eqb}
 use Rattle.ranges.proofs.Counts.{here-or-later}
 use Rattle.ranges.specs.Ranges.{sum, span}
 use Rattle.ranges.specs.Lists.{Each, total}

@@ -1,6 +1,6 @@
 -- Words in blocks of 96. `spliced` says that a part of a list, changed by itself and put back, is stores from the part's start on, and `Walking`
 -- is the invariant of a loop that changes block after block. Assumes nothing.
-use mathlib.Core.Path.{_≡_, refl, sym, ap, _∙_}
+use mathlib.Core.Path.{_≡_, refl, sym, _∙_}
 use mathlib.Core.List.{List, _++_, append-assoc}
 use mathlib.Core.Logic.{⊎-elim}
 use Prim.Native.Nat.{ℕ, _+_, _-_, _*_, _≤_, _<_}

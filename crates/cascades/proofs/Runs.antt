@@ -1,12 +1,11 @@
 -- A table filled in runs: `filling-run` is one turn of a loop that fills the entries from p up to e at once, and `word-run` and `block-run` say what a
 -- run's entries are. From `entry-shown`, that a block's entry for an input is the pattern that it shows, follows `shown-table`. Assumes nothing.
 use mathlib.Core.Path.{_≡_, refl, sym, ap, _∙_}
-use mathlib.Core.Bool.{Bool, true, false, cond}
+use mathlib.Core.Bool.{cond}
 use mathlib.Core.List.{List, [], _∷_, _++_, append-nil, append-assoc}
 use Prim.Native.Nat.{ℕ, zero, suc, _+_, _-_, _*_, _/_, _%_, _^_, _≤_, _<_, min}
 use native.Mathlib.Nat.{zero-add, add-zero, add-suc, zero-mod, add-mod-right, lt-of-lt-of-le}
 use native.Mathlib.Omega.{arith}
-use lib.Dec.{eqb}
 use lib.ListN.{length, getD, take, drop, length-take, length-drop}
 use lib.Seq.{take-at, drop-at, drop-drop}
 use Rattle.ranges.specs.Ranges.{sum, span}

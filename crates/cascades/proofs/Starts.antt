@@ -1,7 +1,7 @@
 -- The planes before the first gate. `firstWords` says what the stored words are; that they are these is computed. With the plane of its number filled,
 -- a block shows each of its inputs (`laid`). Assumes nothing.
 use mathlib.Core.Path.{_≡_, refl, sym, ap, _∙_}
-use mathlib.Core.Bool.{Bool, true, false, cond, _||_, or-true, or-false}
+use mathlib.Core.Bool.{Bool, true, false, cond, or-true, or-false}
 use mathlib.Core.List.{List}
 use mathlib.Core.Logic.{_⊎_, ⊎-elim}
 use Prim.Native.Nat.{ℕ, zero, suc, _+_, _*_, _/_, _%_, _^_, _≤_, _<_}
@@ -11,7 +11,7 @@ use native.Mathlib.Omega.{arith}
 use lib.Dec.{eqb, ltb}
 use lib.ListN.{length, getD, replicate, getD-replicate}
 use lib.Seq.{sets, length-sets}
-use borrow.Author.Tests.{eqb-true, eq-eqb, ne-eqb, lt-ltb}
+use borrow.Author.Tests.{eq-eqb, ne-eqb, lt-ltb}
 use Rattle.ranges.specs.Ranges.{span}
 use Rattle.ranges.proofs.Counts.{lt-or-le}
 use Rattle.ranges.proofs.Spans.{length-span, span-at}

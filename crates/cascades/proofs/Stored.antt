@@ -1,16 +1,15 @@
 -- Gates as bytes: how long their records are, one turn of a loop that writes them, and that what was written is read back. Assumes nothing.
 use mathlib.Core.Path.{_≡_, refl, sym, ap, ap₂, _∙_}
-use mathlib.Core.List.{List, [], _∷_, _++_, map, reverse, append-assoc}
-use Prim.Native.Nat.{ℕ, zero, suc, _+_, _-_, _*_, _/_, _^_, _≤_, _<_}
+use mathlib.Core.List.{List, [], _∷_, _++_, append-assoc}
+use Prim.Native.Nat.{ℕ, _+_, _-_, _*_, _/_, _≤_, _<_}
 use native.Mathlib.Nat.{zero-add, add-zero}
-use native.Mathlib.Numerals.{add-one}
 use native.Mathlib.Omega.{arith}
 use mathlib.Core.Bool.{true}
 use lib.ListN.{length, getD, drop, length-append}
 use lib.Seq.{sets, length-sets}
 use Rattle.ranges.specs.Ranges.{span}
 use Rattle.ranges.specs.Lists.{Each}
-use Rattle.ranges.proofs.Spans.{length-span, span-more, span-ends, map-span, reverse-span}
+use Rattle.ranges.proofs.Spans.{span-more, span-ends, map-span, reverse-span}
 use Rattle.ranges.proofs.Stores.{sets-append, getD-sets-below}
 use Rattle.card.specs.Card.{laid}
 use Rattle.card.proofs.Cards.{sets-laid}

@@ -17,7 +17,7 @@ use Rattle.ranges.proofs.Counts.{lt-or-le}
 use Rattle.ranges.proofs.Changes.{at-set}
 use Rattle.ranges.proofs.Stores.{getD-sets, getD-sets-below, getD-sets-above}
 use Rattle.ranges.proofs.Triples.{triple-at, beq-same}
-use Rattle.digits.specs.Digits.{digit, put}
+use Rattle.digits.specs.Digits.{digit}
 use Rattle.digits.proofs.Digits.{digit-lt, digit-put-same, digit-put-other}
 use Rattle.digits.proofs.Three.{three}
 use Rattle.gates.specs.declared.Gate.{Gate}

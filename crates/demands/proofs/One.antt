@@ -1,7 +1,7 @@
 -- Demand 1. Every call answers every input, by its type and contract. Here: each refusal is given exactly where the card says, in the card's
 -- order, with the card's place; and a refused call leaves each lent buffer as it was. Assumes nothing.
 use Prim.Native.Nat.{ℕ, _+_, _*_, _/_, _^_}
-use mathlib.Core.Path.{_≡_, refl, sym, ap, _∙_}
+use mathlib.Core.Path.{_≡_, refl}
 use mathlib.Core.Bool.{Bool, true, false, cond, not, _&&_}
 use lib.Dec.{eqb}
 use mathlib.Core.Logic.{_↔_}

@@ -1,5 +1,5 @@
 -- Digits in a radix that is a power of two, under the operations on bits: these work digit by digit. Assumes nothing.
-use mathlib.Core.Path.{_≡_, refl, sym, ap, _∙_}
+use mathlib.Core.Path.{_≡_, sym, _∙_}
 use Prim.Native.Nat.{ℕ, zero, suc, _+_, _*_, _/_, _%_, _^_, _<_}
 use native.Mathlib.Nat.{pow-zero}
 use native.Mathlib.Omega.{arith}

@@ -18,10 +18,9 @@ use Rattle.digits.specs.Digits.{digit, pack}
 use Rattle.digits.proofs.Digits.{digit-zero, digit-suc, digit-lt, digit-low, digit-up, low-div, low-mod}
 use Rattle.digits.proofs.Packs.{pack-ext}
 use Rattle.digits.proofs.Bits.{digit-and, digit-or, digit-xor, digit-of-zero, zero-digits}
-use Rattle.gates.specs.declared.Gate.{Gate}
 use Rattle.gates.specs.Records.{lineOk, linesOkAt, packedAt, isRecord, gateAt}
 use Rattle.gates.proofs.Records.{line-lt}
-use Rattle.gates.specs.Words.{byte, Word, bytesIn, linesOkIn, isWord, gateOf, bare, Low, Held, controlMarks, otherMarks, Spread, firesIn, movedBy}
+use Rattle.gates.specs.Words.{byte, Word, bytesIn, linesOkIn, isWord, gateOf, bare, Low}
 
 -- ---- what is computed
 

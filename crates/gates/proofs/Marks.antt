@@ -1,24 +1,21 @@
 -- Six bytes at once: marks on those of which something holds, a pattern spread out, and what a gate makes of it. What is finite is computed.
 -- `moved-spread` says that a gate does to the spread digits what it does to the pattern. Assumes nothing.
 use mathlib.Core.Path.{_≡_, refl, sym, ap, _∙_}
-use mathlib.Core.Bool.{Bool, true, false, cond, not, _&&_, _||_}
-use mathlib.Core.Logic.{_⊎_, ⊎-elim}
-use Prim.Native.Nat.{ℕ, zero, suc, _+_, _-_, _*_, _/_, _%_, _^_, _≤_, _<_}
+use mathlib.Core.Bool.{Bool, true, false, cond, not, _||_}
+use Prim.Native.Nat.{ℕ, _+_, _-_, _*_, _/_, _%_, _^_, _≤_, _<_}
 use native.Mathlib.Nat.{lt-of-le-of-lt}
 use native.Mathlib.Decide.{ℕ-discrete}
 use native.Mathlib.Omega.{arith}
-use lib.Dec.{eqb, leb, ltb}
+use lib.Dec.{eqb, ltb}
 use lib.Bits.{bitAnd, bitOr, bitXor, and-le-r, and-mask, or-mod}
 use borrow.Author.Tests.{eqb-true, ltb-true}
 use Rattle.ranges.specs.Ranges.{every, sum}
-use Rattle.ranges.proofs.Bools.{decide}
 use Rattle.ranges.proofs.Tests.{every-below, every-ext}
 use Rattle.ranges.proofs.Sums.{sum-le}
 use Rattle.digits.specs.Digits.{digit, put, pack}
 use Rattle.digits.proofs.Digits.{digit-lt, digit-put-same, digit-put-other, put-lt, digits-equal}
 use Rattle.digits.proofs.Packs.{pack-lt, pack-ext, pack-digits, digit-pack}
 use Rattle.digits.proofs.Bits.{digit-and, digit-or, digit-xor, byte-half, bytes-sum}
-use Rattle.gates.specs.declared.Gate.{Gate}
 use Rattle.gates.specs.Gates.{act, control, holds, firesOn, fires, applied}
 use Rattle.gates.specs.Words.{byte, gateOf, Low, Held, controlMarks, otherMarks, Spread, firesIn, movedBy}
 use Rattle.gates.proofs.Operators.{act-lt}

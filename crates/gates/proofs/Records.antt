@@ -1,23 +1,21 @@
 -- A gate and its record. `decode-encode` and `encode-decode` are the two round trips: a gate's record reads as that gate, and the bytes that read as a
 -- gate are its record, so each gate has one. Assumes nothing.
-use mathlib.Core.Path.{_≡_, refl, sym, ap, _∙_, subst}
-use mathlib.Core.Bool.{Bool, true, false, cond, _&&_, _||_, true≢false}
+use mathlib.Core.Path.{_≡_, refl, ap, _∙_, subst}
+use mathlib.Core.Bool.{Bool, true, false, cond, _&&_, _||_}
 use mathlib.Core.List.{List, [], _∷_}
 use mathlib.Core.Logic.{_⊎_}
-use Prim.Native.Nat.{ℕ, zero, suc, _+_, _*_, _^_, _≤_, _<_}
+use Prim.Native.Nat.{ℕ, zero, suc, _+_, _^_, _≤_, _<_}
 use native.Mathlib.Nat.{add-zero, add-assoc}
 use native.Mathlib.Decide.{ℕ-discrete}
-use native.Mathlib.Numerals.{add-one}
 use native.Mathlib.Omega.{arith}
 use lib.Dec.{eqb, leb, ltb}
-use lib.ListN.{length, getD, set, length-set}
+use lib.ListN.{length, getD, set}
 use lib.Seq.{sets, length-sets, set-getD}
-use borrow.Author.Tests.{leb-true, ltb-true, ltb-false, eqb-true, eqb-false, leb-false, le-leb, lt-leb, lt-ltb, le-ltb, eq-eqb, ne-eqb}
-use Rattle.ranges.specs.Ranges.{every}
-use Rattle.ranges.proofs.Bools.{and-left, and-right, and-both, decide, clash}
+use borrow.Author.Tests.{leb-true, ltb-true, eqb-true, leb-false, le-leb, lt-leb, lt-ltb, le-ltb, eq-eqb, ne-eqb}
+use Rattle.ranges.proofs.Bools.{and-left, and-right, decide}
 use Rattle.ranges.proofs.Tests.{every-below, every-of}
 use Rattle.ranges.proofs.Stores.{getD-sets}
-use Rattle.digits.specs.Digits.{digit, pack}
+use Rattle.digits.specs.Digits.{digit}
 use Rattle.digits.proofs.Digits.{digit-lt}
 use Rattle.digits.proofs.Packs.{pack-lt, pack-ext, pack-digits, digit-pack}
 use Rattle.card.specs.Card.{linesOk}

@@ -1,6 +1,6 @@
 -- What the search remembers of each row stays true: where a row is found clear further on, and where a gate is replaced, sixteen rows at a time; and what
 -- a row that is clear up to j says of the first pair. Assumes nothing.
-use mathlib.Core.Path.{_≡_, refl, sym, ap, _∙_, subst}
+use mathlib.Core.Path.{_≡_, refl, sym, _∙_, subst}
 use mathlib.Core.Logic.{⊎-elim}
 use mathlib.Core.Bool.{Bool, true, false, cond, _&&_}
 use mathlib.Core.List.{List, _++_}

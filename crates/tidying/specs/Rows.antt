@@ -1,6 +1,6 @@
 -- What the search remembers of each row: cited by the contracts of inner functions alone.
 use mathlib.Core.Path.{_≡_}
-use mathlib.Core.Bool.{Bool, true, false}
+use mathlib.Core.Bool.{true, false}
 use mathlib.Core.List.{List}
 use Prim.Native.Nat.{ℕ, _+_, _%_, _<_, _≤_}
 use lib.ListN.{length, getD, set}

@@ -1,7 +1,6 @@
 -- `cascades::check_cascade` meets its contract: each return is a case of `checkAnswer`. Assumes nothing.
 use mathlib.Core.Path.{_≡_, sym, _∙_}
 use mathlib.Core.Bool.{true}
-use Prim.Native.Nat.{_/_, _≤_}
 use lib.ListN.{length}
 use borrow.Author.Tests.{not-true, not-false}
 use Rattle.card.specs.Card.{linesOk}

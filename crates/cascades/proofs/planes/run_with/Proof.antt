@@ -1,7 +1,7 @@
 -- `cascades::planes::run_with` meets its contract: after i gates the planes show what the first i gates make of each input. Assumes nothing.
-use mathlib.Core.Path.{_≡_, refl, sym, ap, _∙_}
+use mathlib.Core.Path.{_≡_, sym, _∙_}
 use mathlib.Core.List.{List}
-use Prim.Native.Nat.{ℕ, _-_, _*_, _/_, _≤_, _<_}
+use Prim.Native.Nat.{ℕ, _-_, _*_, _/_, _≤_}
 use native.Mathlib.Omega.{arith}
 use lib.ListN.{length}
 use borrow.Author.Needs.{needs}
@@ -9,7 +9,7 @@ use Rattle.ranges.specs.Ranges.{span}
 use Rattle.card.proofs.Cards.{lines-are}
 use Rattle.gates.proofs.Records.{gate-at}
 use Rattle.cascades.specs.Cascades.{Whole, gatesOf, ran}
-use Rattle.cascades.specs.Planes.{InBlock, AllShow}
+use Rattle.cascades.specs.Planes.{AllShow}
 use Rattle.cascades.proofs.Cascades.{gateOf}
 use Rattle.cascades.proofs.Turns.{in-block, all-start, all-next}
 use Rattle.cascades.proofs.planes.run_with.Statement.{statement}

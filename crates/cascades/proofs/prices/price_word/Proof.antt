@@ -5,7 +5,6 @@ use native.Mathlib.Nat.{zero-add}
 use lib.Bits.{bitAnd, and-le-r}
 use lib.ListN.{length, getD}
 use native.Mathlib.Omega.{arith}
-use Rattle.ranges.specs.Ranges.{span}
 use Rattle.ranges.proofs.Spans.{length-span, span-at}
 use Rattle.gates.specs.Words.{gateOf}
 use Rattle.gates.proofs.Marks.{marks-lt}

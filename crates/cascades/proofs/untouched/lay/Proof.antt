@@ -1,9 +1,8 @@
 -- `cascades::untouched::lay` meets its contract: block after block is laid. Assumes nothing.
-use mathlib.Core.Path.{_≡_, refl, sym, ap, _∙_}
+use mathlib.Core.Path.{sym, _∙_}
 use mathlib.Core.List.{List}
-use Prim.Native.Nat.{ℕ, _+_, _-_, _*_, _≤_, _<_}
+use Prim.Native.Nat.{ℕ, _+_, _-_, _*_, _≤_}
 use native.Mathlib.Omega.{arith}
-use lib.ListN.{length}
 use borrow.Author.Needs.{needs}
 use Rattle.cascades.specs.Planes.{Shows}
 use Rattle.cascades.proofs.Parts.{Walking, walking-start, walking-next, cut-length}

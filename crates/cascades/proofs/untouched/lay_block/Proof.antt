@@ -1,7 +1,6 @@
 -- `cascades::untouched::lay_block` meets its contract: the stored words are computed. Assumes nothing.
-use mathlib.Core.Path.{_≡_, refl, sym, ap, _∙_}
+use mathlib.Core.Path.{_≡_}
 use Prim.Native.Nat.{_+_, _*_}
-use native.Mathlib.Omega.{arith}
 use lib.Seq.{sets}
 use borrow.Author.Needs.{needs}
 use Rattle.ranges.specs.Ranges.{span, sum}

@@ -1,5 +1,5 @@
 -- `cascades::whole::write_with` meets its contract: planes that show what the gates make of each input are their table. Assumes nothing.
-use mathlib.Core.Path.{_≡_, refl, sym, ap, _∙_}
+use mathlib.Core.Path.{_∙_}
 use native.Mathlib.Omega.{arith}
 use borrow.Author.Needs.{needs}
 use Rattle.card.proofs.Cards.{lines-are}

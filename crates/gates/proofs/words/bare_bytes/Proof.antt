@@ -1,5 +1,4 @@
 -- `gates::words::bare_bytes` meets its contract: the weights are powers, and nothing overflows. Assumes nothing.
-use mathlib.Core.Path.{sym}
 use Prim.Native.Nat.{_*_, _/_, _≤_}
 use native.Mathlib.Omega.{arith}
 use native.Mathlib.Nat.{div-mul-le-self}

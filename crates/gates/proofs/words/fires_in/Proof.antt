@@ -1,5 +1,4 @@
 -- `gates::words::fires_in` meets its contract: no line is marked twice. Assumes nothing.
-use mathlib.Core.Path.{_∙_}
 use native.Mathlib.Omega.{arith}
 use Rattle.gates.proofs.Marks.{fires-marked}
 use borrow.Author.Needs.{needs}

@@ -1,5 +1,4 @@
 -- `gates::words::invert_word` meets its contract: the other bytes stay where they are. Assumes nothing.
-use mathlib.Core.Path.{_≡_, _∙_}
 use native.Mathlib.Omega.{arith}
 use Rattle.digits.proofs.Digits.{digit-zero}
 use borrow.Author.Needs.{needs}

@@ -1,5 +1,5 @@
 -- `gates::words::moved` meets its contract: where the gate fires, the target's byte is put anew. Assumes nothing.
-use mathlib.Core.Path.{_≡_, sym, ap, _∙_}
+use mathlib.Core.Path.{sym, _∙_}
 use Prim.Native.Nat.{_/_, _%_, _<_}
 use borrow.Author.Tests.{not-true, not-false}
 use native.Mathlib.Omega.{arith}

@@ -10,7 +10,7 @@ use Rattle.gates.specs.Gates.{inverse, IsGate}
 use Rattle.gates.proofs.Gates.{inverse-gate}
 use Rattle.tidying.specs.Rules.{cancels, merges, reduces, loosened, retuned}
 use Rattle.tidying.specs.Tidying.{gate, ruled}
-use Rattle.tidying.specs.Buffers.{gatesIn, gap, isGap, Holds, kept, rank}
+use Rattle.tidying.specs.Buffers.{gatesIn, isGap, Holds, kept, rank}
 use Rattle.tidying.specs.Rows.{Known, Low}
 use Rattle.tidying.proofs.Rules.{reduction, loosened-gate, retuned-gate}
 use Rattle.tidying.proofs.Steps.{last-rule}

@@ -1,7 +1,7 @@
 -- `tidying::applying::replace_both` meets its contract: gate j first, whose rows are looked at before those of gate i. Assumes nothing.
 use mathlib.Core.Path.{_≡_, _∙_}
 use native.Mathlib.Omega.{arith}
-use lib.ListN.{length, set, length-set}
+use lib.ListN.{set, length-set}
 use Rattle.tidying.specs.Buffers.{gatesIn}
 use Rattle.tidying.proofs.Buffers.{length-gates, holds-list}
 use borrow.Author.Needs.{needs}

@@ -1,7 +1,6 @@
 -- `tidying::memory::look_stride` meets its contract: no row reaches gate p, or each looks again. Assumes nothing.
 use mathlib.Core.Path.{refl}
 use native.Mathlib.Omega.{arith}
-use lib.ListN.{length}
 use Rattle.tidying.proofs.Buffers.{length-gates}
 use Rattle.tidying.proofs.Rows.{again-none}
 use borrow.Author.Needs.{needs}

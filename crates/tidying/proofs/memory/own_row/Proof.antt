@@ -1,5 +1,4 @@
 -- `tidying::memory::own_row` meets its contract, by the cases of the operator. Assumes nothing.
-use lib.Dec.{eqb}
 use borrow.Author.Tests.{eq-eqb, ne-eqb}
 use Rattle.tidying.specs.Buffers.{isGap}
 use borrow.Author.Needs.{needs}
