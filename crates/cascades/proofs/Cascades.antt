@@ -6,7 +6,7 @@ use native.Mathlib.Nat.{zero-add}
 use native.Mathlib.Omega.{arith}
 use lib.ListN.{length}
 use Rattle.ranges.specs.Ranges.{span}
-use Rattle.ranges.specs.Lists.{Each, through}
+use Rattle.ranges.specs.Lists.{Each}
 use Rattle.ranges.proofs.Lists.{through-nil, through-cons, through-append}
 use Rattle.ranges.proofs.Spans.{length-span, span-more, span-ends, span-snoc, span-each}
 use Rattle.card.proofs.Cards.{lines-are}
@@ -58,5 +58,3 @@ run-snoc b i p =
     let s : span (gateOf b) 0 (suc i) ≡ span (gateOf b) 0 i ++ (gateOf b i ∷ []) = rw (zero-add i) at (span-snoc (gateOf b) 0 i) in
     rw (e, s, run-append (span (gateOf b) 0 i) (gateOf b i ∷ []) p)
     (through-cons applied (gateOf b i) [] (ran (span (gateOf b) 0 i) p) ∙ through-nil applied (applied (gateOf b i) (ran (span (gateOf b) 0 i) p)))
-
--- ---- a whole table: entry p after the first i records is what they make of p

@@ -36,21 +36,13 @@ fn control_plane(lines: u8, cascade: &[u8], at: usize, line: usize) -> usize
     16 * line + 4 * (cascade[at + 2 + line] as usize)
 }
 
-// Which of the target's planes becomes its plane for 0: that of the digit which the operator takes to 0. A hexadecimal digit for each operator
-// says where it starts, since a branch on the operator could not be foreseen.
-fn zero_from(operator: u8) -> usize
-    requires { ⌜ (1 ≤ operator) × (operator ≤ 5) ⌝ }
-    ensures { λ r. ⌜ r ≡ 4 * act (inverseOp operator) 0 ⌝ }
+// Which of the target's planes becomes its plane for 0 or 1: that of the digit which the operator takes there. A hexadecimal digit for each
+// operator says where it starts, six for 0 and then six for 1, since a branch on the operator could not be foreseen.
+fn source(operator: u8, digit: usize) -> usize
+    requires { ⌜ (1 ≤ operator) × (operator ≤ 5) × (digit < 2) ⌝ }
+    ensures { λ r. ⌜ r ≡ 4 * act (inverseOp operator) digit ⌝ }
 {
-    (0x40_8480usize >> (4 * (operator as usize))) % 16
-}
-
-// Which becomes its plane for 1.
-fn one_from(operator: u8) -> usize
-    requires { ⌜ (1 ≤ operator) × (operator ≤ 5) ⌝ }
-    ensures { λ r. ⌜ r ≡ 4 * act (inverseOp operator) 1 ⌝ }
-{
-    (0x08_4800usize >> (4 * (operator as usize))) % 16
+    (0x0848_0040_8480usize >> (4 * (operator as usize) + 24 * digit)) % 16
 }
 
 // The places of the gate at a place.
@@ -68,8 +60,8 @@ fn places_of(lines: u8, cascade: &[u8], at: usize) -> Places
         line4: control_plane(lines, cascade, at, 4),
         line5: control_plane(lines, cascade, at, 5),
         target,
-        zero: target + zero_from(operator),
-        one: target + one_from(operator),
+        zero: target + source(operator, 0),
+        one: target + source(operator, 1),
     }
 }
 
@@ -82,17 +74,17 @@ pub fn word(block: &[u64], plane: usize, j: usize) -> u64
 }
 
 // The inputs of word j on which the gate fires: every control is content.
-fn fires_at(block: &[u64], p: Places, j: usize) -> u64
-    requires { ⌜ InBlock p ⌝ }
+fn fires_at(block: &[u64], places: Places, j: usize) -> u64
+    requires { ⌜ InBlock places ⌝ }
     requires { ⌜ (length (now block) ≡ 96) × (j < 4) ⌝ }
-    ensures { λ r. ⌜ r ≡ firesWord p (now (block .entry)) j ⌝ }
+    ensures { λ r. ⌜ r ≡ firesWord places (now (block .entry)) j ⌝ }
 {
-    word(block, p.line0, j)
-        & word(block, p.line1, j)
-        & word(block, p.line2, j)
-        & word(block, p.line3, j)
-        & word(block, p.line4, j)
-        & word(block, p.line5, j)
+    word(block, places.line0, j)
+        & word(block, places.line1, j)
+        & word(block, places.line2, j)
+        & word(block, places.line3, j)
+        & word(block, places.line4, j)
+        & word(block, places.line5, j)
 }
 
 // The bits of one word where the gate fires, and of the other elsewhere.
@@ -110,16 +102,24 @@ fn neither(a: u64, b: u64) -> u64
 }
 
 // What the target's planes for 0, 1 and 2 become, beside the block, so that every word is read before one is stored.
-fn turn(block: &[u64], p: Places, new: &mut [u64])
-    requires { ⌜ InBlock p ⌝ }
+fn turn(block: &[u64], places: Places, new: &mut [u64])
+    requires { ⌜ InBlock places ⌝ }
     requires { ⌜ (length (now block) ≡ 96) × (length (now new) ≡ 12) ⌝ }
-    ensures { λ _. ⌜ ((c j : ℕ) → c < 3 → j < 4 → getD (now (new .exit)) (4 * c + j) 0 ≡ newWord p (now (block .entry)) c j) ⌝ }
+    ensures { λ _. ⌜ ((c j : ℕ) → c < 3 → j < 4 → getD (now (new .exit)) (4 * c + j) 0 ≡ newWord places (now (block .entry)) c j) ⌝ }
 {
     let mut j: usize = 0;
     while j < 4 {
-        let fires = fires_at(block, p, j);
-        let zero = chosen(fires, word(block, p.zero, j), word(block, p.target, j));
-        let one = chosen(fires, word(block, p.one, j), word(block, p.target + 4, j));
+        let fires = fires_at(block, places, j);
+        let zero = chosen(
+            fires,
+            word(block, places.zero, j),
+            word(block, places.target, j),
+        );
+        let one = chosen(
+            fires,
+            word(block, places.one, j),
+            word(block, places.target + 4, j),
+        );
         new[j] = zero;
         new[4 + j] = one;
         new[8 + j] = neither(zero, one);
@@ -140,25 +140,25 @@ pub fn put(block: &mut [u64], at: usize, words: &[u64])
 }
 
 // A gate on a block.
-fn act_on_block(block: &mut [u64], p: Places, new: &mut [u64])
-    requires { ⌜ InBlock p ⌝ }
+fn act_on_block(block: &mut [u64], places: Places, new: &mut [u64])
+    requires { ⌜ InBlock places ⌝ }
     requires { ⌜ (length (now block) ≡ 96) × (length (now new) ≡ 12) ⌝ }
-    ensures { λ _. ⌜ Turned p (now (block .entry)) (now (block .exit)) ⌝ }
+    ensures { λ _. ⌜ Turned places (now (block .entry)) (now (block .exit)) ⌝ }
 {
-    turn(block, p, new);
-    put(block, p.target, new);
+    turn(block, places, new);
+    put(block, places.target, new);
 }
 
 // A gate on all blocks.
-fn act(planes: &mut [u64], blocks: usize, p: Places, new: &mut [u64])
-    requires { ⌜ InBlock p ⌝ }
+fn act(planes: &mut [u64], blocks: usize, places: Places, new: &mut [u64])
+    requires { ⌜ InBlock places ⌝ }
     requires { ⌜ (length (now planes) ≡ 96 * blocks) × (blocks ≤ 3) × (length (now new) ≡ 12) ⌝ }
-    ensures { λ _. ⌜ ((s : ℕ) → s < blocks → Turned p (part s (now (planes .entry))) (part s (now (planes .exit)))) ⌝ }
+    ensures { λ _. ⌜ ((s : ℕ) → s < blocks → Turned places (part s (now (planes .entry))) (part s (now (planes .exit)))) ⌝ }
 {
-    let mut s: usize = 0;
-    while s < blocks {
-        act_on_block(&mut planes[96 * s..96 * s + 96], p, new);
-        s = s + 1;
+    let mut number: usize = 0;
+    while number < blocks {
+        act_on_block(&mut planes[96 * number..96 * number + 96], places, new);
+        number = number + 1;
     }
 }
 

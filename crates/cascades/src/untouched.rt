@@ -2,7 +2,6 @@
 ghost use mathlib.Core.Path.{_≡_};
 ghost use Prim.Native.Nat.{_*_, _+_, _≤_, _<_};
 ghost use lib.ListN.{length};
-ghost use lib.Seq.{sets};
 ghost use Rattle.cascades.specs.Planes.{Shows, AllShow};
 use crate::planes;
 
@@ -123,9 +122,9 @@ pub fn lay(planes: &mut [u64], blocks: usize)
     requires { ⌜ (length (now planes) ≡ 96 * blocks) × (blocks ≤ 3) ⌝ }
     ensures { λ _. ⌜ AllShow blocks (now (planes .exit)) (λ p. p) ⌝ }
 {
-    let mut s: usize = 0;
-    while s < blocks {
-        lay_block(&mut planes[96 * s..96 * s + 96], s);
-        s = s + 1;
+    let mut number: usize = 0;
+    while number < blocks {
+        lay_block(&mut planes[96 * number..96 * number + 96], number);
+        number = number + 1;
     }
 }

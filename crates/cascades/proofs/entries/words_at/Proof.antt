@@ -1,60 +1,45 @@
+-- `cascades::entries::words_at` meets its contract: word by word. Assumes nothing.
 use borrow.Author.Needs.{needs}
 use Rattle.cascades.specs.Planes.{wordsOf}
 use Rattle.cascades.proofs.entries.words_at.Statement.{statement}
 use Rattle.cascades.proofs.entries.words_at.Tie as tie
-use Rattle.cascades.proofs.entries.words_at.Reads as reads
-use Rattle.cascades.proofs.entries.words_at.Lts as lts
-use Rattle.cascades.proofs.planes.word.Reads as word-reads
 
--- src/entries.rt:49:9
 word-requires : tie.Need-word-requires
 word-requires c κs = search needs
 
--- src/entries.rt:50:9
 word-requires-2 : tie.Need-word-requires-2
 word-requires-2 c κs = search needs
 
--- src/entries.rt:51:9
 word-requires-3 : tie.Need-word-requires-3
 word-requires-3 c κs = search needs
 
--- src/entries.rt:52:9
 word-requires-4 : tie.Need-word-requires-4
 word-requires-4 c κs = search needs
 
--- src/entries.rt:53:9
 word-requires-5 : tie.Need-word-requires-5
 word-requires-5 c κs = search needs
 
--- src/entries.rt:54:9
 word-requires-6 : tie.Need-word-requires-6
 word-requires-6 c κs = search needs
 
--- src/entries.rt:55:9
 word-requires-7 : tie.Need-word-requires-7
 word-requires-7 c κs = search needs
 
--- src/entries.rt:56:9
 word-requires-8 : tie.Need-word-requires-8
 word-requires-8 c κs = search needs
 
--- src/entries.rt:57:9
 word-requires-9 : tie.Need-word-requires-9
 word-requires-9 c κs = search needs
 
--- src/entries.rt:58:9
 word-requires-10 : tie.Need-word-requires-10
 word-requires-10 c κs = search needs
 
--- src/entries.rt:59:9
 word-requires-11 : tie.Need-word-requires-11
 word-requires-11 c κs = search needs
 
--- src/entries.rt:60:9
 word-requires-12 : tie.Need-word-requires-12
 word-requires-12 c κs = search needs
 
--- src/entries.rt:44:1
 returns : tie.Need-returns
 unfolding wordsOf
 returns c =

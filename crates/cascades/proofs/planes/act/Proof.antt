@@ -18,10 +18,10 @@ record Going (planes₀ : List ℕ) (blocks : ℕ) (p : Places) (planes new : Li
   walked : Walking (λ t. Turned p) blocks planes₀ planes s
 
 abbrev Inv-loop : tie.InvT-loop
-Inv-loop planes₀ blocks p new₀ s₀ planes new s = Going planes₀ blocks p planes new s
+Inv-loop planes₀ blocks places new₀ number₀ planes new number = Going planes₀ blocks places planes new number
 
 abbrev μ-loop : tie.MeasureT-loop
-μ-loop planes₀ blocks p new₀ s₀ planes new s = blocks - s
+μ-loop planes₀ blocks places new₀ number₀ planes new number = blocks - number
 
 loop-holds : tie.Need-loop-holds Inv-loop μ-loop
 loop-holds c =
@@ -54,8 +54,8 @@ act-on-block-requires c κs =
     let i = c .before .before .before .loop .inv in
     (i .inside, (cut-length _ _ _ (i .walked .long) (c .before .before .loop-test .taken), i .long))
 
-add-s : tie.Need-add-s Inv-loop μ-loop
-add-s c = search needs
+add-number : tie.Need-add-number Inv-loop μ-loop
+add-number c = search needs
 
 loop-less : tie.Need-loop-less Inv-loop μ-loop
 loop-less c = search needs
@@ -97,7 +97,7 @@ act-spec =
     part-act-on-block-start
     part-act-on-block-end
     act-on-block-requires
-    add-s
+    add-number
     loop-less
     loop-again
     same-length

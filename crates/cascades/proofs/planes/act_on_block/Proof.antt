@@ -23,7 +23,7 @@ returns : tie.Need-returns
 returns c =
     let start = c .before .before .before .before .before .before .before .before .before .before .before .before in
     let long : length (c .before .before .before .before .before .before .before .turn .last .1 .1 .0) ≡ 12 = omega arith in
-    rw (c .before .before .put .ensures) (put-turned (start .args .p) (start .args .block .now) (c .before .before .before .before .before .before .before .turn .last .1 .1 .0) (start .pre .0) (start .pre .1 .0) long (c .before .before .before .before .before .before .before .turn .ensures))
+    rw (c .before .before .put .ensures) (put-turned (start .args .places) (start .args .block .now) (c .before .before .before .before .before .before .before .turn .last .1 .1 .0) (start .pre .0) (start .pre .1 .0) long (c .before .before .before .before .before .before .before .turn .ensures))
 
 pub act-on-block-spec : {M : Type 1} → statement M
 act-on-block-spec =

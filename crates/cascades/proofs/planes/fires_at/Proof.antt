@@ -1,36 +1,27 @@
+-- `cascades::planes::fires_at` meets its contract: word by word. Assumes nothing.
 use borrow.Author.Needs.{needs}
 use Rattle.cascades.specs.Planes.{firesWord}
 use Rattle.cascades.proofs.planes.fires_at.Statement.{statement}
 use Rattle.cascades.proofs.planes.fires_at.Tie as tie
-use Rattle.cascades.proofs.planes.fires_at.Reads as reads
-use Rattle.cascades.proofs.planes.fires_at.Lts as lts
-use Rattle.cascades.proofs.planes.word.Reads as word-reads
 
--- src/planes.rt:65:5
 word-requires : tie.Need-word-requires
 word-requires c κs = search needs
 
--- src/planes.rt:66:11
 word-requires-2 : tie.Need-word-requires-2
 word-requires-2 c κs = search needs
 
--- src/planes.rt:67:11
 word-requires-3 : tie.Need-word-requires-3
 word-requires-3 c κs = search needs
 
--- src/planes.rt:68:11
 word-requires-4 : tie.Need-word-requires-4
 word-requires-4 c κs = search needs
 
--- src/planes.rt:69:11
 word-requires-5 : tie.Need-word-requires-5
 word-requires-5 c κs = search needs
 
--- src/planes.rt:70:11
 word-requires-6 : tie.Need-word-requires-6
 word-requires-6 c κs = search needs
 
--- src/planes.rt:60:1
 returns : tie.Need-returns
 unfolding firesWord
 returns c =

@@ -55,17 +55,17 @@ control-plane-requires-5 c κs = search needs
 control-plane-requires-6 : tie.Need-control-plane-requires-6
 control-plane-requires-6 c κs = search needs
 
-zero-from-requires : tie.Need-zero-from-requires
-zero-from-requires c κs = let r = read (c .before .before .before .before .before .before .before .before .before) in (r .op-low, r .op-high)
+source-requires : tie.Need-source-requires
+source-requires c κs = let r = read (c .before .before .before .before .before .before .before .before .before) in (r .op-low, r .op-high, omega arith)
 
 add-t16 : tie.Need-add-t16
-add-t16 c = omega (arith, read (c .before .before .before .before .before .before .before .before .before .before) .on-line, six (c .before .before .before .before .before .before .before .before .before .before), small _ _ _ (c .zero-from .ensures))
+add-t16 c = omega (arith, read (c .before .before .before .before .before .before .before .before .before .before) .on-line, six (c .before .before .before .before .before .before .before .before .before .before), small _ _ _ (c .source .ensures))
 
-one-from-requires : tie.Need-one-from-requires
-one-from-requires c κs = let r = read (c .before .before .before .before .before .before .before .before .before .before) in (r .op-low, r .op-high)
+source-requires-2 : tie.Need-source-requires-2
+source-requires-2 c κs = let r = read (c .before .before .before .before .before .before .before .before .before .before) in (r .op-low, r .op-high, omega arith)
 
 add-t18 : tie.Need-add-t18
-add-t18 c = omega (arith, read (c .before .before .before .before .before .before .before .before .before .before .before) .on-line, six (c .before .before .before .before .before .before .before .before .before .before .before), small _ _ _ (c .one-from .ensures))
+add-t18 c = omega (arith, read (c .before .before .before .before .before .before .before .before .before .before .before) .on-line, six (c .before .before .before .before .before .before .before .before .before .before .before), small _ _ _ (c .source2 .ensures))
 
 returns : tie.Need-returns
 unfolding placesOf gateAt
@@ -76,8 +76,8 @@ returns c =
     let e3 = c .before .before .before .before .control-plane4 .ensures in
     let e4 = c .before .before .before .control-plane5 .ensures in
     let e5 = c .before .before .control-plane6 .ensures in
-    let z = c .before .zero-from .ensures in
-    let o = c .one-from .ensures in
+    let z = c .before .source .ensures in
+    let o = c .source2 .ensures in
     rw (e0, e1, e2, e3, e4, e5, z, o)
 
 pub places-of-spec : {M : Type 1} → statement M
@@ -95,8 +95,8 @@ places-of-spec =
     control-plane-requires-4
     control-plane-requires-5
     control-plane-requires-6
-    zero-from-requires
+    source-requires
     add-t16
-    one-from-requires
+    source-requires-2
     add-t18
     returns)

@@ -10,18 +10,18 @@ use Rattle.cascades.proofs.planes.turn.Statement.{statement}
 use Rattle.cascades.proofs.planes.turn.Tie as tie
 
 abbrev Inv-loop : tie.InvT-loop
-Inv-loop block p new₀ j₀ new j = Turning p block new j
+Inv-loop block places new₀ j₀ new j = Turning places block new j
 
 abbrev μ-loop : tie.MeasureT-loop
-μ-loop block p new₀ j₀ new j = 4 - j
+μ-loop block places new₀ j₀ new j = 4 - j
 
 -- what a turn has made
 module _ (c : tie.After-chosen2 Inv-loop μ-loop) where
-  zero-made : c .before .before .before .before .chosen .result ≡ zeroWord (c .before .before .before .before .before .before .before .before .before .before .before .before .args .p) (c .before .before .before .before .before .before .before .before .before .before .before .before .args .block .now) (c .before .before .before .before .before .before .before .before .before .loop .j)
+  zero-made : c .before .before .before .before .chosen .result ≡ zeroWord (c .before .before .before .before .before .before .before .before .before .before .before .before .args .places) (c .before .before .before .before .before .before .before .before .before .before .before .before .args .block .now) (c .before .before .before .before .before .before .before .before .before .loop .j)
   unfolding zeroWord
   zero-made = c .before .before .before .before .chosen .ensures ∙ rw (c .before .before .before .before .before .before .before .fires-at .ensures, c .before .before .before .before .before .before .word .ensures, c .before .before .before .before .before .word2 .ensures)
 
-  one-made : c .chosen2 .result ≡ oneWord (c .before .before .before .before .before .before .before .before .before .before .before .before .args .p) (c .before .before .before .before .before .before .before .before .before .before .before .before .args .block .now) (c .before .before .before .before .before .before .before .before .before .loop .j)
+  one-made : c .chosen2 .result ≡ oneWord (c .before .before .before .before .before .before .before .before .before .before .before .before .args .places) (c .before .before .before .before .before .before .before .before .before .before .before .before .args .block .now) (c .before .before .before .before .before .before .before .before .before .loop .j)
   unfolding oneWord
   one-made = c .chosen2 .ensures ∙ rw (c .before .before .before .before .before .before .before .fires-at .ensures, c .before .before .before .word3 .ensures, c .before .word4 .ensures)
 

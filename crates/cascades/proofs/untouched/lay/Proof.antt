@@ -18,10 +18,10 @@ record Going (planes₀ : List ℕ) (blocks : ℕ) (planes : List ℕ) (s : ℕ)
   walked : Walking Laid blocks planes₀ planes s
 
 abbrev Inv-loop : tie.InvT-loop
-Inv-loop planes₀ blocks s₀ planes s = Going planes₀ blocks planes s
+Inv-loop planes₀ blocks number₀ planes number = Going planes₀ blocks planes number
 
 abbrev μ-loop : tie.MeasureT-loop
-μ-loop planes₀ blocks s₀ planes s = blocks - s
+μ-loop planes₀ blocks number₀ planes number = blocks - number
 
 loop-holds : tie.Need-loop-holds Inv-loop μ-loop
 loop-holds c = record { most = c .before .pre .1; walked = walking-start _ _ _ (c .before .pre .0) }
@@ -53,8 +53,8 @@ lay-block-requires c κs =
     let t = c .before .loop-test .taken in
     (cut-length _ _ _ (i .walked .long) t, omega (arith, i .most))
 
-add-s : tie.Need-add-s Inv-loop μ-loop
-add-s c = search needs
+add-number : tie.Need-add-number Inv-loop μ-loop
+add-number c = search needs
 
 loop-less : tie.Need-loop-less Inv-loop μ-loop
 loop-less c = search needs
@@ -90,7 +90,7 @@ lay-spec =
     part-lay-block-start
     part-lay-block-end
     lay-block-requires
-    add-s
+    add-number
     loop-less
     loop-again
     same-length
