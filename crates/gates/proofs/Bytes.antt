@@ -1,26 +1,29 @@
 -- Records as numbers: the bytes of a word, and the tests that look at all of them at once. What is finite is computed: a byte has 256 values, a board
 -- at most six lines. Assumes nothing.
 use mathlib.Core.Path.{_≡_, refl, sym, ap, _∙_}
-use mathlib.Core.Bool.{Bool, true, false, cond, not, _&&_, _||_}
+use mathlib.Core.Bool.{Bool, true, false, cond, not, _&&_, _||_, and-false, and-assoc}
 use mathlib.Core.List.{List, [], _∷_}
 use mathlib.Core.Logic.{_⊎_, ⊎-elim}
 use Prim.Native.Nat.{ℕ, zero, suc, _+_, _-_, _*_, _/_, _%_, _^_, _≤_, _<_}
-use native.Mathlib.Nat.{add-zero, add-assoc, lt-of-le-of-lt}
+use native.Mathlib.Nat.{add-zero, zero-add, add-assoc, lt-of-le-of-lt}
 use native.Mathlib.Omega.{arith}
 use lib.Dec.{eqb, leb, ltb}
-use lib.ListN.{length, getD}
-use lib.Bits.{bitAnd, bitOr, bitXor, and-zero-r, and-le-r, or-lt}
-use borrow.Author.Tests.{eqb-true, eqb-false, leb-true, ltb-true, ltb-false, eq-eqb, ne-eqb, le-leb, lt-leb, lt-ltb, le-ltb}
+use lib.ListN.{length, getD, take, drop}
+use lib.Seq.{getD-take, getD-drop}
+use lib.Bits.{bitAnd, bitOr, bitXor, and-le-r, or-lt}
+use borrow.Author.Tests.{eqb-true, eqb-false, leb-true, ltb-true, ltb-false, eq-eqb, ne-eqb, not-true, le-leb, lt-leb, lt-ltb, le-ltb}
 use Rattle.ranges.specs.Ranges.{every, sum}
-use Rattle.ranges.proofs.Bools.{and-left, and-right, decide, clash}
+use Rattle.ranges.proofs.Bools.{and-left, and-right, and-both, decide, clash}
 use Rattle.ranges.proofs.Tests.{every-below, every-of, every-ext}
 use Rattle.digits.specs.Digits.{digit, pack}
 use Rattle.digits.proofs.Digits.{digit-zero, digit-suc, digit-lt, digit-low, digit-up, low-div, low-mod}
-use Rattle.digits.proofs.Packs.{pack-ext}
+use Rattle.digits.proofs.Packs.{pack-ext, pack-digits}
 use Rattle.digits.proofs.Bits.{digit-and, digit-or, digit-xor, digit-of-zero, zero-digits}
-use Rattle.gates.specs.Records.{lineOk, linesOkAt, packedAt, isRecord, gateAt}
+use Rattle.gates.specs.Records.{lineOk, linesOkAt, packedAt, isRecord, gateAt, asRecord, decoded}
+use Rattle.gates.specs.declared.Record.{Record}
+use Rattle.card.specs.Card.{linesOk}
 use Rattle.gates.proofs.Records.{line-lt}
-use Rattle.gates.specs.Words.{byte, Word, bytesIn, linesOkIn, isWord, gateOf, bare, Low}
+use Rattle.gates.specs.Words.{byte, Word, bytesIn, linesOkIn, isWord, gateOf, bare, headOf, asked, faultsIn, Low}
 
 -- ---- what is computed
 
@@ -43,19 +46,31 @@ pub weight-some : (k : ℕ) → k ≤ 6 → 1 ≤ 256 ^ k
 unfolding every
 weight-some k le = leb-true _ _ (every-below (λ k. leb 1 (256 ^ k)) 7 refl k (omega arith))
 
--- a control byte against the byte of `bare`
-byte-right : (none : Bool) (x : ℕ) → x < 256 → eqb (bitAnd (bitXor x (cond none 3 0)) (bitOr (cond none 3 0) 252)) 0 ≡ cond none (eqb x 3) (leb x 3)
+-- what is wrong with one byte: bits of n that it has, and bits of a that it hasn't
+abbrev amiss : ℕ → ℕ → ℕ → ℕ
+amiss n a x = bitOr (bitAnd x n) (bitAnd (bitXor x a) a)
+
+-- an operator or a target, of which nothing is asked; a control byte against that of `bare`; and all bits
+head-right : (x : ℕ) → x < 256 → eqb (amiss 248 0 x) 0 ≡ ltb x 8
 unfolding every
-byte-right true x lt = same _ _ (every-below (λ x. cond (eqb (bitAnd (bitXor x 3) (bitOr 3 252)) 0) (eqb x 3) (not (eqb x 3))) 256 refl x lt)
-byte-right false x lt = same _ _ (every-below (λ x. cond (eqb (bitAnd (bitXor x 0) (bitOr 0 252)) 0) (leb x 3) (not (leb x 3))) 256 refl x lt)
+head-right x lt = same _ _ (every-below (λ x. cond (eqb (amiss 248 0 x) 0) (ltb x 8) (not (ltb x 8))) 256 refl x lt)
 
-large-byte : (k : ℕ) → k < 6 → byte (2 + k) 18229723555195256832 ≡ 252
-unfolding every digit
-large-byte k lt = eqb-true _ _ (every-below (λ k. eqb (byte (2 + k) 18229723555195256832) 252) 6 refl k lt)
+byte-right : (none : Bool) (x : ℕ) → x < 256 → eqb (amiss 252 (cond none 3 0) x) 0 ≡ cond none (eqb x 3) (leb x 3)
+unfolding every
+byte-right true x lt = same _ _ (every-below (λ x. cond (eqb (amiss 252 3 x) 0) (eqb x 3) (not (eqb x 3))) 256 refl x lt)
+byte-right false x lt = same _ _ (every-below (λ x. cond (eqb (amiss 252 0 x) 0) (leb x 3) (not (leb x 3))) 256 refl x lt)
 
-large-low : (k : ℕ) → k < 2 → byte k 18229723555195256832 ≡ 0
+never-right : (x : ℕ) → x < 256 → eqb (amiss 248 255 x) 0 ≡ false
+unfolding every
+never-right x lt = not-true _ (every-below (λ x. not (eqb (amiss 248 255 x) 0)) 256 refl x lt)
+
+never-head : (k : ℕ) → k < 2 → byte k 18229723555195320568 ≡ 248
 unfolding every digit
-large-low k lt = eqb-true _ _ (every-below (λ k. eqb (byte k 18229723555195256832) 0) 2 refl k lt)
+never-head k lt = eqb-true _ _ (every-below (λ k. eqb (byte k 18229723555195320568) 248) 2 refl k lt)
+
+never-control : (k : ℕ) → k < 6 → byte (2 + k) 18229723555195320568 ≡ 252
+unfolding every digit
+never-control k lt = eqb-true _ _ (every-below (λ k. eqb (byte (2 + k) 18229723555195320568) 252) 6 refl k lt)
 
 -- ---- bytes by place
 
@@ -69,21 +84,42 @@ byte-high k w =
     let same : w / 256 / 256 ≡ w / 65536 = omega arith in
     rw (two, digit-suc, digit-suc, same)
 
--- a number of six bytes is 0 exactly if a test holds of each byte that holds exactly of the byte 0
-pub none-in : (z : ℕ) (f : ℕ → Bool) → z < 256 ^ 6 → ((k : ℕ) → k < 6 → eqb (byte k z) 0 ≡ f k) → eqb z 0 ≡ every f 0 6
-none-in z f low h = ⊎-elim (λ (e : eqb z 0 ≡ true). e ∙ sym (yes e)) (λ (e : eqb z 0 ≡ false). e ∙ sym (no e (decide (every f 0 6)))) (decide (eqb z 0))
+-- a number of m bytes is 0 exactly if a test holds of each byte that holds exactly of the byte 0
+pub none-in : (m z : ℕ) (f : ℕ → Bool) → z < 256 ^ m → ((k : ℕ) → k < m → eqb (byte k z) 0 ≡ f k) → eqb z 0 ≡ every f 0 m
+none-in m z f low h = ⊎-elim (λ (e : eqb z 0 ≡ true). e ∙ sym (yes e)) (λ (e : eqb z 0 ≡ false). e ∙ sym (no e (decide (every f 0 m)))) (decide (eqb z 0))
   where
-    yes : eqb z 0 ≡ true → every f 0 6 ≡ true
-    yes e = every-of f 6 (λ k lt. sym (h k lt) ∙ eq-eqb (byte k z) 0 (ap (λ (x : ℕ). byte k x) (eqb-true z 0 e) ∙ digit-of-zero 256 k (omega arith)))
+    yes : eqb z 0 ≡ true → every f 0 m ≡ true
+    yes e = every-of f m (λ k lt. sym (h k lt) ∙ eq-eqb (byte k z) 0 (ap (λ (x : ℕ). byte k x) (eqb-true z 0 e) ∙ digit-of-zero 256 k (omega arith)))
 
-    no : eqb z 0 ≡ false → (every f 0 6 ≡ true) ⊎ (every f 0 6 ≡ false) → every f 0 6 ≡ false
-    no e (_⊎_.inl q) = clash (eqb z 0) (eq-eqb z 0 (zero-digits 256 6 z (omega arith) (omega arith) low (λ k lt. eqb-true (byte k z) 0 (h k lt ∙ every-below f 6 q k lt)))) e
+    no : eqb z 0 ≡ false → (every f 0 m ≡ true) ⊎ (every f 0 m ≡ false) → every f 0 m ≡ false
+    no e (_⊎_.inl q) = clash (eqb z 0) (eq-eqb z 0 (zero-digits 256 m z (omega arith) (omega (arith, low)) low (λ k lt. eqb-true (byte k z) 0 (h k lt ∙ every-below f m q k lt)))) e
     no e (_⊎_.inr q) = q
 
--- with its two lowest bytes 0, a number is 0 exactly if the rest is
-high-zero : (z : ℕ) → z % 256 ≡ 0 → z / 256 % 256 ≡ 0 → eqb z 0 ≡ eqb (z / 65536) 0
-high-zero z a b = ⊎-elim (λ (e : eqb (z / 65536) 0 ≡ true). eq-eqb z 0 (omega (arith, eqb-true (z / 65536) 0 e)) ∙ sym e)
-    (λ (e : eqb (z / 65536) 0 ≡ false). ne-eqb z 0 (λ q. eqb-false (z / 65536) 0 e (omega arith)) ∙ sym e) (decide (eqb (z / 65536) 0))
+-- the bytes of the faults
+fault-byte : (a w k : ℕ) → byte k (faultsIn a w) ≡ amiss (byte k 18229723555195320568) (byte k a) (byte k w)
+unfolding faultsIn
+fault-byte a w k =
+    let o : digit 256 k (bitOr (bitAnd w 18229723555195320568) (bitAnd (bitXor w a) a)) ≡ bitOr (byte k (bitAnd w 18229723555195320568)) (byte k (bitAnd (bitXor w a) a)) =
+    digit-or 8 k (bitAnd w 18229723555195320568) (bitAnd (bitXor w a) a) in
+    let n : digit 256 k (bitAnd w 18229723555195320568) ≡ bitAnd (byte k w) (byte k 18229723555195320568) = digit-and 8 k w 18229723555195320568 in
+    let m : digit 256 k (bitAnd (bitXor w a) a) ≡ bitAnd (byte k (bitXor w a)) (byte k a) = digit-and 8 k (bitXor w a) a in
+    let x : digit 256 k (bitXor w a) ≡ bitXor (byte k w) (byte k a) = digit-xor 8 k w a in
+    rw (o, n, m, x)
+
+fault-lt : (a w : ℕ) → a < 256 ^ 8 → faultsIn a w < 256 ^ 8
+unfolding faultsIn
+fault-lt a w lt =
+    or-lt 64 (bitAnd w 18229723555195320568) (bitAnd (bitXor w a) a) (lt-of-le-of-lt (and-le-r w 18229723555195320568) (omega arith))
+    (lt-of-le-of-lt (and-le-r (bitXor w a) a) lt)
+
+-- where all bits are asked, some are missing or too many
+pub fault-all : (w : ℕ) → eqb (faultsIn 18446744073709551615 w) 0 ≡ false
+fault-all w =
+    let ones : byte 0 18446744073709551615 ≡ 255 = digit-zero 256 18446744073709551615 in
+    let wrong : eqb (byte 0 (faultsIn 18446744073709551615 w)) 0 ≡ false =
+    rw (fault-byte 18446744073709551615 w 0, never-head 0 (omega arith), ones) (never-right (byte 0 w) (digit-lt 256 0 w (omega arith))) in
+    ne-eqb (faultsIn 18446744073709551615 w) 0
+    (λ q. eqb-false (byte 0 (faultsIn 18446744073709551615 w)) 0 wrong (ap (λ (x : ℕ). byte 0 x) q ∙ digit-of-zero 256 0 (omega arith)))
 
 module _ (n t : ℕ) (six : n ≤ 6) (on : t < n) where
   bare-byte : (k : ℕ) → k < 6 → byte (2 + k) (bare n t) ≡ cond (eqb k t || leb n k) 3 0
@@ -109,41 +145,30 @@ module _ (n t : ℕ) (six : n ≤ 6) (on : t < n) where
       let one = every-below (test n) 6 (every-below (λ n. every (test n) 0 6) 7 all n (omega arith)) t (omega arith) in
       ltb-true _ _ (rw (lt-ltb t n on) at one)
 
-  -- all control bytes at once
+  -- all bytes at once
   module _ (w : ℕ) where
-    abbrev pub wrong : ℕ
-    wrong = bitAnd (bitXor w (bare n t)) (bitOr (bare n t) 18229723555195256832)
+    abbrev right : ℕ → Bool
+    right k = cond (ltb k 2) (ltb (byte k w) 8) (lineOk n t (k - 2) (byte k w))
 
-    wrong-byte : (k : ℕ) → k < 6 → eqb (byte (2 + k) wrong) 0 ≡ lineOk n t k (byte (2 + k) w)
+    fault-right : (k : ℕ) → k < 8 → eqb (byte k (faultsIn (bare n t) w)) 0 ≡ right k
     unfolding lineOk
-    wrong-byte k lt =
-        let x : digit 256 (2 + k) (bitXor w (bare n t)) ≡ bitXor (byte (2 + k) w) (byte (2 + k) (bare n t)) = digit-xor 8 (2 + k) w (bare n t) in
-        let o : digit 256 (2 + k) (bitOr (bare n t) 18229723555195256832) ≡ bitOr (byte (2 + k) (bare n t)) (byte (2 + k) 18229723555195256832) =
-        digit-or 8 (2 + k) (bare n t) 18229723555195256832 in
-        let a : byte (2 + k) (bitAnd (bitXor w (bare n t)) (bitOr (bare n t) 18229723555195256832))
-        ≡ bitAnd (byte (2 + k) (bitXor w (bare n t))) (byte (2 + k) (bitOr (bare n t) 18229723555195256832)) =
-        digit-and 8 (2 + k) (bitXor w (bare n t)) (bitOr (bare n t) 18229723555195256832) in
-        rw (a, x, o, bare-byte k lt, large-byte k lt) (byte-right (eqb k t || leb n k) (byte (2 + k) w) (digit-lt 256 (2 + k) w (omega arith)))
+    fault-right k lt = ap (λ (x : ℕ). eqb x 0) (fault-byte (bare n t) w k) ∙ go (decide (ltb k 2))
+      where
+        go : (ltb k 2 ≡ true) ⊎ (ltb k 2 ≡ false) → eqb (amiss (byte k 18229723555195320568) (byte k (bare n t)) (byte k w)) 0 ≡ right k
+        go (_⊎_.inl e) =
+            let l = ltb-true k 2 e in
+            rw (e, never-head k l, bare-low k l) (head-right (byte k w) (digit-lt 256 k w (omega arith)))
+        go (_⊎_.inr e) =
+            let two : 2 + (k - 2) ≡ k = omega (arith, ltb-false k 2 e) in
+            let n4 : byte (2 + (k - 2)) 18229723555195320568 ≡ 252 = never-control (k - 2) (omega (arith, lt, ltb-false k 2 e)) in
+            let b4 : byte (2 + (k - 2)) (bare n t) ≡ cond (eqb (k - 2) t || leb n (k - 2)) 3 0 = bare-byte (k - 2) (omega (arith, lt, ltb-false k 2 e)) in
+            rw (e, rw two at n4, rw two at b4) (byte-right (eqb (k - 2) t || leb n (k - 2)) (byte k w) (digit-lt 256 k w (omega arith)))
 
-    wrong-low : (k : ℕ) → k < 2 → byte k wrong ≡ 0
-    wrong-low k lt =
-        let o : digit 256 k (bitOr (bare n t) 18229723555195256832) ≡ bitOr (byte k (bare n t)) (byte k 18229723555195256832) =
-        digit-or 8 k (bare n t) 18229723555195256832 in
-        let a : byte k (bitAnd (bitXor w (bare n t)) (bitOr (bare n t) 18229723555195256832))
-        ≡ bitAnd (byte k (bitXor w (bare n t))) (byte k (bitOr (bare n t) 18229723555195256832)) =
-        digit-and 8 k (bitXor w (bare n t)) (bitOr (bare n t) 18229723555195256832) in
-        rw (a, o, bare-low k lt, large-low k lt) (and-zero-r (byte k (bitXor w (bare n t))))
-
-    wrong-lt : wrong < 256 ^ 8
-    wrong-lt = lt-of-le-of-lt (and-le-r (bitXor w (bare n t)) (bitOr (bare n t) 18229723555195256832)) (or-lt 64 (bare n t) 18229723555195256832 bare-lt (omega arith))
-
-    pub lines-in : eqb wrong 0 ≡ linesOkIn n t w
-    unfolding linesOkIn
-    lines-in =
-        let low : wrong % 256 ≡ 0 = rw digit-zero at (wrong-low 0 (omega arith)) in
-        let next : wrong / 256 % 256 ≡ 0 = rw byte-one at (wrong-low 1 (omega arith)) in
-        high-zero wrong low next
-        ∙ none-in (wrong / 65536) (λ k. lineOk n t k (byte (2 + k) w)) (omega (arith, wrong-lt)) (λ k lt. ap (λ (x : ℕ). eqb x 0) (byte-high k wrong) ∙ wrong-byte k lt)
+    pub fault-bare : eqb (faultsIn (bare n t) w) 0 ≡ (ltb (byte 0 w) 8 && ltb (byte 1 w) 8 && linesOkIn n t w)
+    unfolding linesOkIn every
+    fault-bare =
+        none-in 8 (faultsIn (bare n t) w) right (fault-lt (bare n t) w bare-lt) fault-right
+        ∙ sym (and-assoc (ltb (byte 0 w) 8) (ltb (byte 1 w) 8) (linesOkIn n t w))
 
 -- ---- a word put together
 
@@ -155,17 +180,20 @@ module _ (a b c d : ℕ) (la : a < 256) (lb : b < 256) (lc : c < 256) (ld : d < 
   four-bytes f ea eb ec ed (suc (suc (suc zero))) lt = rw (digit-suc, digit-suc, digit-suc, digit-zero) (omega arith) ∙ ed
   four-bytes f ea eb ec ed (suc (suc (suc (suc k)))) lt = absurd (omega arith)
 
-pub two-halves : (b : List ℕ) (at lo hi : ℕ) → lo < 256 ^ 4 → hi < 256 ^ 4
-    → ((k : ℕ) → k < 4 → byte k lo ≡ getD b (at + k) 0) → ((k : ℕ) → k < 4 → byte k hi ≡ getD b (at + 4 + k) 0) → Word b at (lo + 4294967296 * hi)
-two-halves b at lo hi llo lhi elo ehi = record { low = omega arith; bytes = λ k lt. go k lt (decide (ltb k 4)) }
+-- the two halves of 8 bytes
+pub two-halves : (b part : List ℕ) (at lo hi : ℕ) → lo < 256 ^ 4 → hi < 256 ^ 4 → part ≡ take (at + 8 - at) (drop at b)
+    → ((k : ℕ) → k < 4 → byte k lo ≡ getD part (0 + k) 0) → ((k : ℕ) → k < 4 → byte k hi ≡ getD part (4 + k) 0) → Word b at (lo + 4294967296 * hi)
+two-halves b part at lo hi llo lhi is elo ehi = record { low = omega arith; bytes = λ k lt. go k lt (decide (ltb k 4)) }
   where
+    there : (k : ℕ) → k < 8 → getD part k 0 ≡ getD b (at + k) 0
+    there k lt = rw is (getD-take (at + 8 - at) (drop at b) k 0 (omega arith)) ∙ getD-drop at b k 0
+
     go : (k : ℕ) → k < 8 → (ltb k 4 ≡ true) ⊎ (ltb k 4 ≡ false) → byte k (lo + 4294967296 * hi) ≡ getD b (at + k) 0
-    go k lt (_⊎_.inl e) = digit-low 256 k 4 lo hi (omega arith) (ltb-true k 4 e) ∙ elo k (ltb-true k 4 e)
+    go k lt (_⊎_.inl e) = digit-low 256 k 4 lo hi (omega arith) (ltb-true k 4 e) ∙ rw zero-add at (elo k (ltb-true k 4 e)) ∙ there k lt
     go k lt (_⊎_.inr e) =
         let four : 4 + (k - 4) ≡ k = omega (arith, ltb-false k 4 e) in
-        let place : at + 4 + (k - 4) ≡ at + k = omega (arith, ltb-false k 4 e) in
-        let up : byte (4 + (k - 4)) (lo + 4294967296 * hi) ≡ getD b (at + 4 + (k - 4)) 0 = digit-up 256 (k - 4) 4 lo hi llo ∙ ehi (k - 4) (omega arith) in
-        rw (four, place) at up
+        let up : byte (4 + (k - 4)) (lo + 4294967296 * hi) ≡ getD part (4 + (k - 4)) 0 = digit-up 256 (k - 4) 4 lo hi llo ∙ ehi (k - 4) (omega arith) in
+        rw four at up ∙ there k lt
 
 -- a byte below the bytes of q
 low-byte : (x q : ℕ) → x < 256 → byte 0 (x + 256 * q) ≡ x
@@ -251,41 +279,120 @@ module _ (b : List ℕ) (at w : ℕ) (read : Word b at w) where
       let t = read .bytes 1 (omega arith) in
       λ i. record { operator = sym o i; target = sym t i; controls = c i }
 
+  -- decoding by the word
+  pub word-decoded : (n : ℕ) → linesOk n ≡ true → at + 8 ≤ length b → decoded n b at ≡ cond (isWord n w) (asRecord (gateOf w)) (Record.Refused 7 at)
+  unfolding decoded
+  word-decoded n six fits = rw (six, word-is n fits, word-gate)
+
 -- ---- its control bytes packed
 
-module _ (w : ℕ) (low : Low w) where
-  -- two bits are all of a control byte
-  two-bits : (k : ℕ) → k < 6 → w / 256 ^ (2 + k) % 4 ≡ byte (2 + k) w
-  unfolding digit
-  two-bits k lt = omega (arith, low .each k lt)
+-- three pairs, each below 16, side by side
+three-packed : (p q r : ℕ) → p < 16 → q < 16 → r < 16 → (p + 65536 * q + 4294967296 * r) * 16781313 / 16777216 % 4096 ≡ p + 16 * q + 256 * r
+three-packed p q r lp lq lr =
+    let product : (p + 65536 * q + 4294967296 * r) * 16781313 ≡ 4097 * p + 65536 * q + 16777216 * (p + 16 * q + 256 * r + 4096 * (16 * q + 1048832 * r)) = omega arith in
+    rw (product, low-div {r = 16777216} {d = 4097 * p + 65536 * q} (p + 16 * q + 256 * r + 4096 * (16 * q + 1048832 * r)) (omega arith))
+    (low-mod (16 * q + 1048832 * r) (omega arith))
 
-  pub packed-bytes : w / 65536 % 4 + 4 * (w / 16777216 % 4) + 16 * (w / 4294967296 % 4) + 64 * (w / 1099511627776 % 4) + 256 * (w / 281474976710656 % 4) + 1024 * (w / 72057594037927936 % 4)
+-- a pair of control bytes
+pair-lt : (p q : ℕ) → p < 4 → q < 4 → p + 4 * q < 16
+pair-lt p q lp lq = omega arith
+
+pair-byte : (p q : ℕ) → p < 4 → q < 4 → p + 4 * q < 256
+pair-byte p q lp lq = omega arith
+
+pairs-sum : (a b c d e f : ℕ) → a + 4 * b + 16 * (c + 4 * d) + 256 * (e + 4 * f) ≡ a + 4 * b + 16 * c + 64 * d + 256 * e + 1024 * f
+pairs-sum a b c d e f = omega arith
+
+-- what stands above two bytes
+two-up : (p q r y : ℕ) → p < 256 → q < 256 → y ≡ p + 256 * (q + 256 * r) → y / 65536 ≡ r
+two-up p q r y lp lq e = omega arith
+
+four-up : (y : ℕ) → y / 65536 / 65536 ≡ y / 4294967296
+four-up y = omega arith
+
+-- six control bytes, the first lowest: each beside the one above it
+module _ (a b c d e f : ℕ) (la : a < 4) (lb : b < 4) (lc : c < 4) (ld : d < 4) (le : e < 4) (lf : f < 4) where
+  pub six-packed : (x y : ℕ) → x ≡ a + 256 * (b + 256 * (c + 256 * (d + 256 * (e + 256 * f)))) → y ≡ x + x / 64
+      → (y % 256 + 65536 * (y / 65536 % 256) + 4294967296 * (y / 4294967296 % 256)) * 16781313 / 16777216 % 4096
+      ≡ a + 4 * b + 16 * c + 64 * d + 256 * e + 1024 * f
+  six-packed x y ex ey =
+      let up : x / 64 ≡ 4 * (b + 256 * (c + 256 * (d + 256 * (e + 256 * f)))) = omega (arith, ex) in
+      let y0 : y ≡ a + 4 * b + 256 * (b + 4 * c + 256 * (c + 4 * d + 256 * (d + 4 * e + 256 * (e + 4 * f + 256 * f)))) = omega (arith, ex, ey, up) in
+      let y2 : y / 65536 ≡ c + 4 * d + 256 * (d + 4 * e + 256 * (e + 4 * f + 256 * f)) = two-up (a + 4 * b) (b + 4 * c) _ y (pair-byte a b la lb) (pair-byte b c lb lc) y0 in
+      let y4 : y / 65536 / 65536 ≡ e + 4 * f + 256 * f = two-up (c + 4 * d) (d + 4 * e) _ (y / 65536) (pair-byte c d lc ld) (pair-byte d e ld le) y2 in
+      let p0 : y % 256 ≡ a + 4 * b = ap (λ (z : ℕ). z % 256) y0 ∙ low-mod (b + 4 * c + 256 * (c + 4 * d + 256 * (d + 4 * e + 256 * (e + 4 * f + 256 * f)))) (pair-byte a b la lb) in
+      let p1 : y / 65536 % 256 ≡ c + 4 * d = ap (λ (z : ℕ). z % 256) y2 ∙ low-mod (d + 4 * e + 256 * (e + 4 * f + 256 * f)) (pair-byte c d lc ld) in
+      let p2 : y / 4294967296 % 256 ≡ e + 4 * f = ap (λ (z : ℕ). z % 256) (sym (four-up y) ∙ y4) ∙ low-mod f (pair-byte e f le lf) in
+      rw (p0, p1, p2) (three-packed (a + 4 * b) (c + 4 * d) (e + 4 * f) (pair-lt a b la lb) (pair-lt c d lc ld) (pair-lt e f le lf) ∙ pairs-sum a b c d e f)
+
+-- the six control bytes make up all above the first two bytes
+six-up : (w : ℕ) → w < 256 ^ 8 → w / 65536 ≡ byte 2 w + 256 * (byte 3 w + 256 * (byte 4 w + 256 * (byte 5 w + 256 * (byte 6 w + 256 * byte 7 w))))
+unfolding pack sum
+six-up w lt =
+    sym (pack-digits 256 6 (w / 65536) (omega arith) (omega (arith, lt)))
+    ∙ pack-ext 256 (λ k. digit 256 k (w / 65536)) (λ k. byte (2 + k) w) 6 (λ k l. byte-high k w)
+    ∙ omega arith
+
+module _ (w : ℕ) (low : Low w) where
+  pub packed-bytes : w < 256 ^ 8
+      → ((w / 65536 + w / 65536 / 64) % 256 + 65536 * ((w / 65536 + w / 65536 / 64) / 65536 % 256) + 4294967296 * ((w / 65536 + w / 65536 / 64) / 4294967296 % 256)) * 16781313
+      / 16777216
+      % 4096
       ≡ pack 4 (λ k. byte (2 + k) w) 6
   unfolding pack sum
-  packed-bytes = omega (arith, two-bits 0 (omega arith), two-bits 1 (omega arith), two-bits 2 (omega arith), two-bits 3 (omega arith), two-bits 4 (omega arith), two-bits 5 (omega arith))
+  packed-bytes lt =
+      six-packed (byte 2 w) (byte 3 w) (byte 4 w) (byte 5 w) (byte 6 w) (byte 7 w) (low .each 0 (omega arith)) (low .each 1 (omega arith)) (low .each 2 (omega arith))
+      (low .each 3 (omega arith)) (low .each 4 (omega arith)) (low .each 5 (omega arith)) (w / 65536) (w / 65536 + w / 65536 / 64) (six-up w lt) refl
+      ∙ omega arith
 
--- ---- which of its tests a word fails first, or that the control bytes decide
+-- ---- which gate a word is, or none
 
 module _ (n w : ℕ) where
-  pub word-target : n ≤ w / 256 % 256 → isWord n w ≡ false
+  -- an operator or a target of 8 or more is none
+  far-head : n ≤ 6 → (ltb (byte 0 w) 8 && ltb (byte 1 w) 8) ≡ false → isWord n w ≡ false
   unfolding isWord
-  word-target off = rw (byte-one, le-ltb (w / 256 % 256) n off) (go (leb 1 (byte 0 w) && leb (byte 0 w) 5))
+  far-head six e = go (decide (ltb (byte 0 w) 8)) (decide (ltb (byte 1 w) 8))
     where
-      go : (a : Bool) → (a && false && linesOkIn n (w / 256 % 256) w) ≡ false
-      go true = refl
-      go false = refl
+      go : (ltb (byte 0 w) 8 ≡ true) ⊎ (ltb (byte 0 w) 8 ≡ false) → (ltb (byte 1 w) 8 ≡ true) ⊎ (ltb (byte 1 w) 8 ≡ false)
+          → (((leb 1 (byte 0 w) && leb (byte 0 w) 5) && ltb (byte 1 w) n) && linesOkIn n (byte 1 w) w) ≡ false
+      go (_⊎_.inr o) t = rw (lt-leb (byte 0 w) 5 (omega (arith, ltb-false (byte 0 w) 8 o)), and-false (leb 1 (byte 0 w)))
+      go (_⊎_.inl o) (_⊎_.inr t) =
+          rw (le-ltb (byte 1 w) n (omega (arith, ltb-false (byte 1 w) 8 t)), and-false (leb 1 (byte 0 w) && leb (byte 0 w) 5))
+      go (_⊎_.inl o) (_⊎_.inl t) = clash (ltb (byte 0 w) 8 && ltb (byte 1 w) 8) (and-both (ltb (byte 0 w) 8) (ltb (byte 1 w) 8) o t) e
 
-  pub word-op-low : w % 256 < 1 → isWord n w ≡ false
-  unfolding isWord
-  word-op-low low = rw (digit-zero, lt-leb 1 (w % 256) low)
+  -- a gate on n lines has the head
+  abbrev valid : Bool
+  valid = (leb 1 (headOf w % 8) && leb (headOf w % 8) 5) && ltb (headOf w / 8) n
 
-  pub word-op-high : 5 < w % 256 → isWord n w ≡ false
-  unfolding isWord
-  word-op-high high = rw (digit-zero, le-leb 1 (w % 256) (omega arith), lt-leb (w % 256) 5 high)
+  asked-valid : n ≤ 6 → valid ≡ true → eqb (faultsIn (asked n (headOf w)) w) 0 ≡ (ltb (byte 0 w) 8 && ltb (byte 1 w) 8 && linesOkIn n (headOf w / 8) w)
+  unfolding asked
+  asked-valid six v =
+      let on = ltb-true (headOf w / 8) n (and-right (leb 1 (headOf w % 8) && leb (headOf w % 8) 5) (ltb (headOf w / 8) n) v) in
+      rw v (fault-bare n (headOf w / 8) six on w)
 
-  pub word-lines : w / 256 % 256 < n → 1 ≤ w % 256 → w % 256 ≤ 5 → isWord n w ≡ linesOkIn n (w / 256 % 256) w
-  unfolding isWord
-  word-lines on low high = rw (byte-one, digit-zero, le-leb 1 (w % 256) low, le-leb (w % 256) 5 high, lt-ltb (w / 256 % 256) n on)
+  asked-none : valid ≡ false → eqb (faultsIn (asked n (headOf w)) w) 0 ≡ false
+  unfolding asked
+  asked-none v = rw v (fault-all w)
+
+  near-head : (ltb (byte 0 w) 8 && ltb (byte 1 w) 8) ≡ true → isWord n w ≡ (valid && linesOkIn n (headOf w / 8) w)
+  unfolding isWord headOf
+  near-head e =
+      let o = ltb-true (byte 0 w) 8 (and-left (ltb (byte 0 w) 8) (ltb (byte 1 w) 8) e) in
+      let t = ltb-true (byte 1 w) 8 (and-right (ltb (byte 0 w) 8) (ltb (byte 1 w) 8) e) in
+      let oe : byte 0 w ≡ (w % 8 + 8 * (w / 256 % 8)) % 8 = digit-zero 256 w ∙ omega (arith, rw digit-zero at o) in
+      let te : byte 1 w ≡ (w % 8 + 8 * (w / 256 % 8)) / 8 = byte-one w ∙ omega (arith, rw byte-one at t) in
+      rw (oe, te)
+
+  -- what is asked by its head decides
+  pub word-faults : n ≤ 6 → eqb (faultsIn (asked n (headOf w)) w) 0 ≡ isWord n w
+  word-faults six = go (decide (ltb (byte 0 w) 8 && ltb (byte 1 w) 8)) (decide valid)
+    where
+      go : ((ltb (byte 0 w) 8 && ltb (byte 1 w) 8) ≡ true) ⊎ ((ltb (byte 0 w) 8 && ltb (byte 1 w) 8) ≡ false) → (valid ≡ true) ⊎ (valid ≡ false)
+          → eqb (faultsIn (asked n (headOf w)) w) 0 ≡ isWord n w
+      go (_⊎_.inl e) (_⊎_.inl v) = asked-valid six v ∙ ap (λ (b : Bool). b && linesOkIn n (headOf w / 8) w) (e ∙ sym v) ∙ sym (near-head e)
+      go (_⊎_.inl e) (_⊎_.inr v) = asked-none v ∙ ap (λ (b : Bool). b && linesOkIn n (headOf w / 8) w) (sym v) ∙ sym (near-head e)
+      go (_⊎_.inr e) (_⊎_.inl v) = asked-valid six v ∙ ap (λ (b : Bool). b && linesOkIn n (headOf w / 8) w) e ∙ sym (far-head six e)
+      go (_⊎_.inr e) (_⊎_.inr v) = asked-none v ∙ sym (far-head six e)
 
   -- a gate's control bytes are below 4
   pub word-low : isWord n w ≡ true → Low w

@@ -136,7 +136,7 @@ marks-hold c x = go (eqb c x) (eqb c 3)
 pub fires-marked : (w d : ℕ) → eqb (bitAnd (otherMarks w d) (controlMarks w)) 0 ≡ firesIn w d
 unfolding firesIn
 fires-marked w d =
-    none-in (bitAnd (otherMarks w d) (controlMarks w)) (λ k. holds (byte (2 + k) w) (byte k d)) (lt-of-le-of-lt (and-le-r (otherMarks w d) (controlMarks w)) (marks-lt w)) each
+    none-in 6 (bitAnd (otherMarks w d) (controlMarks w)) (λ k. holds (byte (2 + k) w) (byte k d)) (lt-of-le-of-lt (and-le-r (otherMarks w d) (controlMarks w)) (marks-lt w)) each
   where
     each : (k : ℕ) → k < 6 → eqb (byte k (bitAnd (otherMarks w d) (controlMarks w))) 0 ≡ holds (byte (2 + k) w) (byte k d)
     each k lt =

@@ -1,9 +1,10 @@
 -- A record as one number, its first byte lowest: what is asked of its bytes is asked of all at once.
-use Prim.Native.Nat.{ℕ, _+_, _*_, _/_, _^_, _<_}
+use Prim.Native.Nat.{ℕ, _+_, _*_, _/_, _%_, _^_, _<_}
 use mathlib.Core.Path.{_≡_}
 use mathlib.Core.Bool.{Bool, cond, _&&_}
 use mathlib.Core.List.{List, [], _∷_}
 use lib.Dec.{eqb, leb, ltb}
+use lib.Bits.{bitAnd, bitOr, bitXor}
 use lib.ListN.{getD}
 use Rattle.ranges.specs.Ranges.{every}
 use Rattle.digits.specs.Digits.{digit, put, pack}
@@ -38,6 +39,18 @@ gateOf w = record { operator = byte 0 w; target = byte 1 w; controls = pack 4 (�
 -- 3 in the byte of each line that can have no control: the target, and those from n up
 unfoldable pub bare : ℕ → ℕ → ℕ
 bare n t = 65536 * (3311470314243 / 256 ^ n * 256 ^ n + 3 * 256 ^ t)
+
+-- its operator and target, of each three bits, as one number
+unfoldable pub headOf : ℕ → ℕ
+headOf w = w % 8 + 8 * (w / 256 % 8)
+
+-- the bits that are asked of a record with this head: those of `bare`, or all where no gate on n lines has the head
+unfoldable pub asked : ℕ → ℕ → ℕ
+asked n h = cond ((leb 1 (h % 8) && leb (h % 8) 5) && ltb (h / 8) n) (bare n (h / 8)) 18446744073709551615
+
+-- the bits that no gate has (an operator and a target are below 8, control bytes below 4), and those of a that are missing
+unfoldable pub faultsIn : ℕ → ℕ → ℕ
+faultsIn a w = bitOr (bitAnd w 18229723555195320568) (bitAnd (bitXor w a) a)
 
 -- its control bytes are below 4, as a gate's are
 pub record Low (w : ℕ) : Type 0 where

@@ -5,10 +5,11 @@ ghost use Prim.Native.Nat.{ℕ, _+_, _*_, _/_, _≤_, _<_, _^_};
 ghost use lib.Dec.{eqb};
 ghost use lib.ListN.{length, getD};
 ghost use lib.Seq.{sets};
-ghost use Rattle.digits.specs.Digits.{digit, put, pack};
+ghost use Rattle.ranges.specs.Ranges.{span};
+ghost use Rattle.digits.specs.Digits.{put, pack};
 ghost use Rattle.gates.specs.Gates.{act, inverseOp};
 ghost use Rattle.gates.specs.Records.{recordOf};
-ghost use Rattle.gates.specs.Words.{byte, Word, bytesIn, bare, linesOkIn, isWord, gateOf, Low, Held, controlMarks, otherMarks, Spread, firesIn, movedBy};
+ghost use Rattle.gates.specs.Words.{byte, Word, bytesIn, bare, asked, headOf, faultsIn, isWord, gateOf, Low, Held, controlMarks, otherMarks, Spread, firesIn, movedBy};
 use super::Gate;
 
 fn wide(x: u8) -> u64
@@ -34,7 +35,8 @@ pub fn word_at(bytes: &[u8], at: usize) -> u64
     requires { ⌜ at + 8 ≤ length (now bytes) ⌝ }
     ensures { λ r. ⌜ Word (now (bytes .entry)) at r ⌝ }
 {
-    half_at(bytes, at) + 4294967296 * half_at(bytes, at + 4)
+    let part = &bytes[at..at + 8];
+    half_at(part, 0) + 4294967296 * half_at(part, 4)
 }
 
 // The word's 8 bytes, stored at a place.
@@ -69,13 +71,49 @@ fn bare_bytes(n: u64, t: u64) -> u64
     65536 * (0x030303030303 / lines * lines + 3 * weight(t))
 }
 
-// The control bytes are right for a gate on n lines with target t: 3 where `bare` has a 3, and below 4 elsewhere.
-fn lines_right(n: u64, t: u64, w: u64) -> bool
-    requires { ⌜ (n ≤ 6) × (t < n) ⌝ }
-    ensures { λ r. ⌜ r ≡ linesOkIn n t w ⌝ }
+// The bits that a record with this head must have: all where no gate has the head.
+fn ask(n: u64, head: u64) -> u64
+    requires { ⌜ n ≤ 6 ⌝ }
+    ensures { λ r. ⌜ r ≡ asked n head ⌝ }
 {
-    let none = bare_bytes(n, t);
-    (w ^ none) & (none | 0xfcfcfcfcfcfc0000) == 0
+    let target = head / 8;
+    if n <= target {
+        return 0xffffffffffffffff;
+    }
+    let operator = head % 8;
+    if operator < 1 {
+        return 0xffffffffffffffff;
+    }
+    if 5 < operator {
+        return 0xffffffffffffffff;
+    }
+    bare_bytes(n, target)
+}
+
+// What is asked by each head, for those who look at many records.
+pub fn write_asked(lines: u8, row: &mut [u64])
+    requires { ⌜ (lines ≤ 6) × (length (now row) ≡ 64) ⌝ }
+    ensures { λ _. ⌜ now (row .exit) ≡ span (asked lines) 0 64 ⌝ }
+{
+    let mut head: usize = 0;
+    while head < 64 {
+        row[head] = ask(lines as u64, head as u64);
+        head = head + 1;
+    }
+}
+
+// The operator and 8 times the target, of each three bits.
+fn head_of(w: u64) -> u64
+    ensures { λ r. ⌜ (r ≡ headOf w) × (r < 64) ⌝ }
+{
+    w % 8 + 8 * (w / 256 % 8)
+}
+
+// The bits that no gate has, and those that are asked and missing.
+fn faults(a: u64, w: u64) -> u64
+    ensures { λ r. ⌜ r ≡ faultsIn a w ⌝ }
+{
+    w & 0xfcfcfcfcfcfcf8f8 | (w ^ a) & a
 }
 
 // The word is a gate on so many lines.
@@ -83,32 +121,28 @@ pub fn is_gate(lines: u8, w: u64) -> bool
     requires { ⌜ lines ≤ 6 ⌝ }
     ensures { λ r. ⌜ r ≡ isWord lines w ⌝ }
 {
-    let n = lines as u64;
-    let target = w / 256 % 256;
-    if n <= target {
-        return false;
-    }
-    let operator = w % 256;
-    if operator < 1 {
-        return false;
-    }
-    if 5 < operator {
-        return false;
-    }
-    lines_right(n, target, w)
+    faults(ask(lines as u64, head_of(w)), w) == 0
 }
 
-// The control bytes, packed in base 4.
+// The same by the row of what is asked: 0 for a gate.
+pub fn faults_by(lines: u8, row: &[u64], w: u64) -> u64
+    requires { ⌜ (lines ≤ 6) × (now row ≡ span (asked lines) 0 64) ⌝ }
+    ensures { λ r. ⌜ eqb r 0 ≡ isWord lines w ⌝ }
+{
+    faults(row[head_of(w) as usize], w)
+}
+
+// The control bytes, packed in base 4: each is put beside the one above it, then the three pairs side by side.
 fn packed_controls(w: u64) -> u64
     requires { ⌜ Low w ⌝ }
     ensures { λ r. ⌜ (r ≡ pack 4 (λ k. byte (2 + k) w) 6) × (r < 4096) ⌝ }
 {
-    w / 65536 % 4
-        + 4 * (w / 16777216 % 4)
-        + 16 * (w / 4294967296 % 4)
-        + 64 * (w / 1099511627776 % 4)
-        + 256 * (w / 281474976710656 % 4)
-        + 1024 * (w / 72057594037927936 % 4)
+    let c = w / 65536;
+    let beside = c + c / 64;
+    let pairs = beside % 256
+        + 65536 * (beside / 65536 % 256)
+        + 4294967296 * (beside / 4294967296 % 256);
+    pairs * 0x01001001 / 16777216 % 4096
 }
 
 // The gate that the word writes down.

@@ -1,14 +1,12 @@
 -- `gates::decode` meets its contract: each return is a case of `decoded`, by the test that led there. Assumes nothing.
-use mathlib.Core.Path.{_≡_, sym, ap, _∙_}
+use mathlib.Core.Path.{_≡_, sym, _∙_}
 use mathlib.Core.Bool.{true}
 use borrow.Author.Tests.{not-true, not-false}
 use native.Mathlib.Omega.{arith}
 use Rattle.card.specs.Card.{linesOk}
 use Rattle.card.proofs.Cards.{lines-are}
-use Rattle.gates.specs.Records.{asRecord}
-use Rattle.gates.specs.Words.{isWord}
-use Rattle.gates.proofs.Records.{decoded-lines, decoded-not, decoded-is, record-short}
-use Rattle.gates.proofs.Bytes.{word-is, word-gate, word-low}
+use Rattle.gates.proofs.Records.{decoded-lines, decoded-not, record-short}
+use Rattle.gates.proofs.Bytes.{word-decoded, word-low}
 use borrow.Author.Needs.{needs}
 use Rattle.gates.proofs.decode.Statement.{statement}
 use Rattle.gates.proofs.decode.Tie as tie
@@ -16,10 +14,6 @@ use Rattle.gates.proofs.decode.Tie as tie
 module _ (c : tie.Else1) where
   six : linesOk (c .before .before .before .args .lines) ≡ true
   six = sym (c .before .lines-ok .ensures) ∙ not-false _ (c .if1 .left)
-
-module _ (c : tie.Else4) where
-  gate : isWord (c .before .before .before .before .before .before .before .before .args .lines) (c .before .before .word-at .result) ≡ true
-  gate = sym (c .before .is-gate .ensures) ∙ not-false _ (c .if4 .left)
 
 lines-ok-requires : tie.Need-lines-ok-requires
 lines-ok-requires c κs = search needs
@@ -42,19 +36,13 @@ word-at-requires c κs = search needs
 is-gate-requires : tie.Need-is-gate-requires
 is-gate-requires c κs = lines-are _ (six (c .before .before .before)) .1
 
+record-of-requires : tie.Need-record-of-requires
+record-of-requires c κs = λ e. word-low _ _ (sym (c .is-gate .ensures) ∙ e)
+
 returns-4 : tie.Need-returns-4
 returns-4 c =
     let d = c .before .before in
-    sym (decoded-not _ _ _ (six (d .before .before .before)) (word-is _ _ _ (d .word-at .ensures) _ (omega arith) ∙ sym (c .before .is-gate .ensures) ∙ not-true _ (c .if4 .taken)))
-
-gate-of-requires : tie.Need-gate-of-requires
-gate-of-requires c κs = word-low _ _ (gate c)
-
-returns-5 : tie.Need-returns-5
-returns-5 c =
-    let d = c .before .before .before in
-    ap asRecord (c .gate-of .ensures ∙ sym (word-gate _ _ _ (d .word-at .ensures)))
-    ∙ sym (decoded-is _ _ _ (six (d .before .before .before)) (word-is _ _ _ (d .word-at .ensures) _ (omega arith) ∙ gate (c .before)))
+    rw (c .record-of .ensures, c .before .is-gate .ensures) (sym (word-decoded _ _ _ (d .word-at .ensures) _ (six (d .before .before .before)) (omega arith)))
 
 pub decode-spec : {M : Type 1} → statement M
 decode-spec =
@@ -67,6 +55,5 @@ decode-spec =
     returns-3
     word-at-requires
     is-gate-requires
-    returns-4
-    gate-of-requires
-    returns-5)
+    record-of-requires
+    returns-4)
