@@ -1,7 +1,6 @@
 pub mod Cascades
 pub mod Undone
 pub mod Costs
-pub mod Marks
 pub mod Answers
 pub mod Stored
 pub mod Sounds
@@ -11,3 +10,5 @@ pub mod Parts
 pub mod Starts
 pub mod Runs
 pub mod Turns
+pub mod Tallies
+pub mod Faults

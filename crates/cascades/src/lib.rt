@@ -5,9 +5,10 @@ ghost use mathlib.Core.Bool.{true};
 ghost use mathlib.Core.List.{_∷_, []};
 ghost use lib.ListN.{length};
 ghost use Rattle.card.specs.Card.{linesOk, Answer.accepted};
+ghost use Rattle.gates.specs.Words.{asked};
 ghost use Rattle.cascades.specs.Cascades.{gatesOf, ran};
 ghost use Rattle.ranges.specs.Ranges.{span};
-ghost use Rattle.cascades.specs.Prices.{base, cascadePrice};
+ghost use Rattle.cascades.specs.Prices.{countedPrice, tallied, cascadePrice};
 ghost use Rattle.cascades.specs.Answers.{countedAs, ranAs, tabulatedAs, pricedAs, sound, checkAnswer, runAnswer, tabulateAnswer, tabulateRoom, invertAnswer, invertRoom, priceAnswer};
 
 mod entries;
@@ -72,9 +73,9 @@ pub fn check_cascade(lines: u8, cascade: &[u8]) -> Counted
     Counted::Gates(count)
 }
 
-// The cascade on a pattern of so many lines, with refusals 6 and 7 on the way: one pass.
-fn run_on(lines: u8, cascade: &[u8], pattern: u16) -> Ran
-    requires { ⌜ (linesOk lines ≡ true) × (pattern < 3 ^ lines) ⌝ }
+// The cascade on a pattern of so many lines, with refusals 6 and 7 on the way: one pass, by the row of what is asked of records.
+fn run_by(lines: u8, row: &[u64], cascade: &[u8], pattern: u16) -> Ran
+    requires { ⌜ (linesOk lines ≡ true) × (now row ≡ span (asked lines) 0 64) × (pattern < 3 ^ lines) ⌝ }
     ensures { λ r. ⌜ ranAs r ≡ sound lines (now (cascade .entry)) (accepted (ran (gatesOf (now (cascade .entry))) pattern ∷ [])) ⌝ }
 {
     if !lengths::length_ok(cascade.len()) {
@@ -91,7 +92,7 @@ fn run_on(lines: u8, cascade: &[u8], pattern: u16) -> Ran
             operator: _,
             target: _,
             controls: _,
-        } = gates::decode(lines, cascade, 8 * i)
+        } = gates::decode_by(lines, row, cascade, 8 * i)
         else {
             return Ran::Refused {
                 number: 7,
@@ -102,6 +103,16 @@ fn run_on(lines: u8, cascade: &[u8], pattern: u16) -> Ran
         i = i + 1;
     }
     Ran::Pattern(gates::words::gather(d))
+}
+
+// The same, with a row of its own.
+fn run_on(lines: u8, cascade: &[u8], pattern: u16) -> Ran
+    requires { ⌜ (linesOk lines ≡ true) × (pattern < 3 ^ lines) ⌝ }
+    ensures { λ r. ⌜ ranAs r ≡ sound lines (now (cascade .entry)) (accepted (ran (gatesOf (now (cascade .entry))) pattern ∷ [])) ⌝ }
+{
+    let mut row = [0u64; 64];
+    gates::words::write_asked(lines, &mut row);
+    run_by(lines, &row, cascade, pattern)
 }
 
 // The cascade on a pattern: refusals 1, 6, 7, 8.
@@ -167,9 +178,17 @@ pub fn invert(lines: u8, cascade: &[u8], room: &mut [u8]) -> Counted
     }
 }
 
-// The sum of the gates' prices by the row of base prices, with refusals 6 and 7 on the way: one pass.
-fn price_by(lines: u8, value: u8, cascade: &[u8], row: &[u32]) -> Priced
-    requires { ⌜ (linesOk lines ≡ true) × (value ≤ 2) × (now row ≡ span base 0 7) ⌝ }
+// The sum of the gates' prices, with refusals 6 and 7 on the way: one pass, by rows of what is asked of records, what controls add, and prices.
+fn price_by(
+    lines: u8,
+    value: u8,
+    cascade: &[u8],
+    row: &[u64],
+    tallies: &[usize],
+    costs: &[u32],
+) -> Priced
+    requires { ⌜ (linesOk lines ≡ true) × (value ≤ 2) × (now row ≡ span (asked lines) 0 64) ⌝ }
+    requires { ⌜ (now tallies ≡ span (tallied value) 0 64) × (now costs ≡ span countedPrice 0 64) ⌝ }
     ensures { λ r. ⌜ pricedAs r ≡ sound lines (now (cascade .entry)) (accepted (cascadePrice value (gatesOf (now (cascade .entry))) ∷ [])) ⌝ }
 {
     if !lengths::length_ok(cascade.len()) {
@@ -185,28 +204,32 @@ fn price_by(lines: u8, value: u8, cascade: &[u8], row: &[u32]) -> Priced
         let Record::Gate {
             operator: _,
             target: _,
-            controls: _,
-        } = gates::decode(lines, cascade, 8 * i)
+            controls,
+        } = gates::decode_by(lines, row, cascade, 8 * i)
         else {
             return Priced::Refused {
                 number: 7,
                 place: i,
             };
         };
-        cost = cost + prices::price_word(value, gates::words::word_at(cascade, 8 * i), row);
+        cost = cost + prices::price_controls(value, controls, tallies, costs);
         i = i + 1;
     }
     Priced::Cost(cost)
 }
 
-// The same, with a row of its own.
+// The same, with rows of its own.
 fn price_on(lines: u8, value: u8, cascade: &[u8]) -> Priced
     requires { ⌜ (linesOk lines ≡ true) × (value ≤ 2) ⌝ }
     ensures { λ r. ⌜ pricedAs r ≡ sound lines (now (cascade .entry)) (accepted (cascadePrice value (gatesOf (now (cascade .entry))) ∷ [])) ⌝ }
 {
-    let mut row = [0u32; 7];
-    prices::write_bases(&mut row);
-    price_by(lines, value, cascade, &row)
+    let mut row = [0u64; 64];
+    gates::words::write_asked(lines, &mut row);
+    let mut tallies = [0usize; 64];
+    prices::write_tallies(value, &mut tallies);
+    let mut costs = [0u32; 64];
+    prices::write_prices(&mut costs);
+    price_by(lines, value, cascade, &row, &tallies, &costs)
 }
 
 // What the cascade costs at a global control value: refusals 1, 10, 6, 7.

@@ -4,7 +4,10 @@ ghost use mathlib.Core.List.{_∷_, []};
 ghost use Prim.Native.Nat.{_+_, _^_, _≤_, _<_};
 ghost use lib.Dec.{leb};
 ghost use lib.ListN.{length};
-ghost use Rattle.card.specs.Card.{onLines, Answer.accepted};
+ghost use mathlib.Core.Bool.{true};
+ghost use Rattle.ranges.specs.Ranges.{span};
+ghost use Rattle.card.specs.Card.{linesOk, onLines, Answer.accepted};
+ghost use Rattle.gates.specs.Words.{asked};
 ghost use Rattle.cascades.specs.Answers.{sound};
 ghost use Rattle.files.specs.Files.{numberAt, frameOk};
 ghost use Rattle.files.specs.Readers.{openingAs, recordStands};
@@ -49,16 +52,11 @@ pub fn frame_ok(file: &[u8]) -> bool
     end - distance <= 1024
 }
 
-// The records between two places of a file are gates: refusals 1, 6, 7.
-pub fn gates_between(lines: u8, records: &[u8], at: usize, end: usize) -> Extent
-    ensures { λ r. ⌜ openingAs r ≡ onLines lines (sound lines (now (records .entry)) (accepted (lines ∷ at ∷ end ∷ []))) ⌝ }
+// The records between two places of a file are gates, by the row of what is asked of each: refusals 6 and 7.
+fn gates_by(lines: u8, row: &[u64], records: &[u8], at: usize, end: usize) -> Extent
+    requires { ⌜ (linesOk lines ≡ true) × (now row ≡ span (asked lines) 0 64) ⌝ }
+    ensures { λ r. ⌜ openingAs r ≡ sound lines (now (records .entry)) (accepted (lines ∷ at ∷ end ∷ [])) ⌝ }
 {
-    if !card::lines_ok(lines) {
-        return Extent::Refused {
-            number: 1,
-            place: 0,
-        };
-    }
     if !cascades::lengths::length_ok(records.len()) {
         return Extent::Refused {
             number: 6,
@@ -72,7 +70,7 @@ pub fn gates_between(lines: u8, records: &[u8], at: usize, end: usize) -> Extent
             operator: _,
             target: _,
             controls: _,
-        } = gates::decode(lines, records, 8 * i)
+        } = gates::decode_by(lines, row, records, 8 * i)
         else {
             return Extent::Refused {
                 number: 7,
@@ -82,6 +80,21 @@ pub fn gates_between(lines: u8, records: &[u8], at: usize, end: usize) -> Extent
         i = i + 1;
     }
     Extent::Frame { lines, at, end }
+}
+
+// The same, with a row of its own: refusals 1, 6, 7.
+pub fn gates_between(lines: u8, records: &[u8], at: usize, end: usize) -> Extent
+    ensures { λ r. ⌜ openingAs r ≡ onLines lines (sound lines (now (records .entry)) (accepted (lines ∷ at ∷ end ∷ []))) ⌝ }
+{
+    if !card::lines_ok(lines) {
+        return Extent::Refused {
+            number: 1,
+            place: 0,
+        };
+    }
+    let mut row = [0u64; 64];
+    gates::words::write_asked(lines, &mut row);
+    gates_by(lines, &row, records, at, end)
 }
 
 // The 8 bytes from a place on end at an offset or before it. The sum is not made: it might wrap around.

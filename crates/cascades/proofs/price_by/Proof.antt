@@ -10,15 +10,14 @@ use native.Mathlib.Omega.{arith}
 use Rattle.ranges.specs.Ranges.{span}
 use Rattle.card.specs.Card.{Answer.accepted}
 use Rattle.card.proofs.Cards.{lines-are}
-use Rattle.gates.specs.Records.{isRecord}
-use Rattle.gates.specs.Words.{isWord}
-use Rattle.gates.proofs.Records.{gate-at, gives, gives-no}
-use Rattle.gates.proofs.Bytes.{word-is, word-gate, word-low}
+use Rattle.gates.specs.declared.Gate.{Gate}
+use Rattle.gates.proofs.Records.{Gives, gives, gives-gate, gives-no}
 use Rattle.cascades.specs.Cascades.{gatesOf}
 use Rattle.cascades.specs.Prices.{gatePrice, cascadePrice}
 use Rattle.cascades.specs.Answers.{lengthOk}
 use Rattle.cascades.proofs.Cascades.{gateOf}
 use Rattle.cascades.proofs.Costs.{price-le, price-more, price-ends}
+use Rattle.cascades.proofs.Tallies.{price-of}
 use Rattle.cascades.proofs.Answers.{Passing, passing-start, passing-next, length-is, sound-length, sound-bad, sound-good}
 use borrow.Author.Needs.{needs}
 use Rattle.cascades.proofs.price_by.Statement.{statement}
@@ -31,30 +30,34 @@ record Going (n v : ℕ) (b : List ℕ) (m cost i : ℕ) : Type 0 where
   value : cost + cascadePrice v (span (gateOf b) i (m - i)) ≡ cascadePrice v (span (gateOf b) 0 m)
 
 abbrev Inv-loop : tie.InvT-loop
-Inv-loop lines value cascade row m cost₀ i₀ cost i = Going lines value cascade m cost i
+Inv-loop lines value cascade row tallies costs m cost₀ i₀ cost i = Going lines value cascade m cost i
 
 abbrev μ-loop : tie.MeasureT-loop
-μ-loop lines value cascade row m cost₀ i₀ cost i = m - i
+μ-loop lines value cascade row tallies costs m cost₀ i₀ cost i = m - i
 
 module _ (c : tie.Else1 Inv-loop μ-loop) where
-  whole : lengthOk (length (c .before .before .before .before .args .cascade .now)) ≡ true
+  whole : lengthOk (length (c .before .before .before .before .before .before .args .cascade .now)) ≡ true
   whole = sym (c .before .length-ok .ensures) ∙ not-false _ (c .if1 .left)
 
--- the record at the loop's place is a gate, and so is the number that it reads as
-module _ (c : tie.After-enum-told Inv-loop μ-loop) where
-  gate : isRecord (c .before .before .before .before .before .before .before .before .before .args .lines) (c .before .before .before .before .before .before .before .before .before .args .cascade .now) (8 * c .before .before .before .before .loop .i) ≡ true
-  gate = gives _ _ _ _ _ _ (sym (c .before .before .decode .ensures) ∙ c .enum-told .given .1) .is
+-- the gate at the loop's place
+module _ (c : tie.After-known-told Inv-loop μ-loop) where
+  gate : Gate
+  gate = record { operator = c .before .controls .given .0 .0; target = c .before .controls .given .0 .1 .0; controls = c .before .controls .given .0 .1 .1 .0 }
 
-module _ (c : tie.After-word-at Inv-loop μ-loop) where
-  is : isWord (c .before .before .before .before .before .before .before .before .before .before .args .lines) (c .word-at .result) ≡ true
-  is = sym (word-is _ _ _ (c .word-at .ensures) _ (omega (arith, c .before .before .before .before .loop-test .taken))) ∙ gate (c .before)
+  got : Gives (c .before .before .before .before .before .before .before .before .before .before .before .before .args .lines) (c .before .before .before .before .before .before .before .before .before .before .before .before .args .cascade .now) (8 * c .before .before .before .before .before .loop .i) gate
+  unfolding gate
+  got = gives _ _ _ _ _ _ (sym (c .before .before .before .decode-by .ensures) ∙ c .before .controls .given .1)
 
-module _ (c : tie.After-price-word Inv-loop μ-loop) where
-  cheap : c .price-word .result ≤ 85
-  cheap =
-      let b = c .before in
-      let six = lines-are _ (b .before .before .before .before .before .before .before .before .before .before .pre .0) .1 in
-      rw (c .price-word .ensures, ← word-gate _ _ _ (b .word-at .ensures)) (price-le _ _ _ six (gate-at _ _ _ six (gate (b .before))))
+  six : c .before .before .before .before .before .before .before .before .before .before .before .before .args .lines ≤ 6
+  six = lines-are _ (c .before .before .before .before .before .before .before .before .before .before .before .before .pre .0 .0) .1
+
+module _ (c : tie.After-price-controls Inv-loop μ-loop) where
+  paid : c .price-controls .result ≡ gatePrice (c .before .before .before .before .before .before .before .before .before .before .before .before .before .args .value) (gate (c .before))
+  unfolding gate
+  paid = c .price-controls .ensures ∙ price-of _ (gate (c .before))
+
+  cheap : c .price-controls .result ≤ 85
+  cheap = rw paid (price-le _ _ _ (six (c .before)) (gives-gate _ _ _ _ (got (c .before))))
 
 length-ok-requires : tie.Need-length-ok-requires Inv-loop μ-loop
 length-ok-requires c κs = search needs
@@ -65,38 +68,31 @@ returns c = sym (sound-length _ _ _ (sym (c .before .length-ok .ensures) ∙ not
 loop-holds : tie.Need-loop-holds Inv-loop μ-loop
 loop-holds c = record { passing = passing-start _ _ _; most = omega (arith, length-is _ (whole c)); small = search needs; value = rw (zero-add, sub-zero) }
 
-mul-decode : tie.Need-mul-decode Inv-loop μ-loop
-mul-decode c = search needs
+mul-decode-by : tie.Need-mul-decode-by Inv-loop μ-loop
+mul-decode-by c = search needs
 
-decode-requires : tie.Need-decode-requires Inv-loop μ-loop
-decode-requires c κs = search needs
+decode-by-requires : tie.Need-decode-by-requires Inv-loop μ-loop
+decode-by-requires c κs = (let s = c .before .before .before .before .before .before .before .before in (s .pre .0 .0, s .pre .0 .2, omega (arith, c .loop-test .taken)))
+
+enum-known-controls : tie.Need-enum-known-controls Inv-loop μ-loop
+enum-known-controls c = search needs
 
 enum-told : tie.Need-enum-told Inv-loop μ-loop
 enum-told c = search needs
-
-enum-told-2 : tie.Need-enum-told-2 Inv-loop μ-loop
-enum-told-2 c = search needs
 
 returns-2 : tie.Need-returns-2 Inv-loop μ-loop
 returns-2 c =
     let d = c .before .before in
     let e = d .before .before .before in
     sym (sound-bad _ _ _ _ (whole e) (d .before .loop-test .taken)
-    (gives-no _ _ _ _ _ (e .before .before .before .before .pre .0) (sym (d .decode .ensures) ∙ c .enum-told2 .given .1)) (d .before .before .loop .inv .passing))
+    (gives-no _ _ _ _ _ (e .before .before .before .before .before .before .pre .0 .0) (sym (d .decode-by .ensures) ∙ c .enum-told .given .1)) (d .before .before .loop .inv .passing))
 
-mul-word-at : tie.Need-mul-word-at Inv-loop μ-loop
-mul-word-at c = search needs
-
-word-at-requires : tie.Need-word-at-requires Inv-loop μ-loop
-word-at-requires c κs = omega arith
-
-price-word-requires : tie.Need-price-word-requires Inv-loop μ-loop
-price-word-requires c κs =
-    let start = c .before .before .before .before .before .before .before .before .before .before in
-    (word-low _ _ (is c), start .pre .1, start .pre .2)
+price-controls-requires : tie.Need-price-controls-requires Inv-loop μ-loop
+unfolding gate
+price-controls-requires c κs = (let s = c .before .before .before .before .before .before .before .before .before .before .before .before in (gives-gate _ _ _ _ (got c) .packed, s .pre .1 .0, s .pre .1 .1))
 
 add-cost : tie.Need-add-cost Inv-loop μ-loop
-add-cost c = omega (arith, cheap c)
+add-cost c = record { fits = omega (arith, cheap c) }
 
 add-i : tie.Need-add-i Inv-loop μ-loop
 add-i c = search needs
@@ -106,15 +102,14 @@ loop-less c = search needs
 
 loop-again : tie.Need-loop-again Inv-loop μ-loop
 loop-again c =
-    let b = c .before in
-    let d = b .before .before .before in
-    let i = d .before .before .loop .inv in
-    let lt = d .before .loop-test .taken in
+    let d = c .before .before .before .before .before in
+    let i = d .before .loop .inv in
+    let lt = d .loop-test .taken in
     record {
-      passing = passing-next _ _ _ _ lt (gate (b .before)) (i .passing);
+      passing = passing-next _ _ _ _ lt (got (c .before) .is) (i .passing);
       most = i .most;
       small = omega (arith, cheap c, i .small);
-      value = rw (c .price-word .ensures, ← word-gate _ _ _ (b .word-at .ensures)) (price-more _ _ _ _ _ lt) ∙ i .value;
+      value = rw (paid c, ← got (c .before) .value) (price-more _ _ _ _ _ lt) ∙ i .value;
     }
 
 returns-3 : tie.Need-returns-3 Inv-loop μ-loop
@@ -133,14 +128,12 @@ price-by-spec =
     length-ok-requires
     returns
     loop-holds
-    mul-decode
-    decode-requires
+    mul-decode-by
+    decode-by-requires
+    enum-known-controls
     enum-told
-    enum-told-2
     returns-2
-    mul-word-at
-    word-at-requires
-    price-word-requires
+    price-controls-requires
     add-cost
     add-i
     loop-less

@@ -10,13 +10,13 @@ use Rattle.cascades.proofs.prices.write_bases.Statement.{statement}
 use Rattle.cascades.proofs.prices.write_bases.Tie as tie
 
 abbrev Inv-loop : tie.InvT-loop
-Inv-loop row₀ k₀ row k = (length row₀ ≡ 7) × Filling base row₀ row k
+Inv-loop row₀ k₀ row k = (length row₀ ≡ 8) × Filling base row₀ row k
 
 abbrev μ-loop : tie.MeasureT-loop
-μ-loop row₀ k₀ row k = 7 - k
+μ-loop row₀ k₀ row k = 8 - k
 
 module _ (c : tie.At-loop Inv-loop μ-loop) where
-  long : length (c .loop .row) ≡ 7
+  long : length (c .loop .row) ≡ 8
   long = filling-length _ _ _ _ (c .loop .inv .1) ∙ c .loop .inv .0
 
 loop-holds : tie.Need-loop-holds Inv-loop μ-loop
