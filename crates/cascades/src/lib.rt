@@ -184,7 +184,7 @@ fn price_by(
     value: u8,
     cascade: &[u8],
     row: &[u64],
-    tallies: &[usize],
+    tallies: &[u8],
     costs: &[u32],
 ) -> Priced
     requires { ⌜ (linesOk lines ≡ true) × (value ≤ 2) × (now row ≡ span (asked lines) 0 64) ⌝ }
@@ -225,7 +225,7 @@ fn price_on(lines: u8, value: u8, cascade: &[u8]) -> Priced
 {
     let mut row = [0u64; 64];
     gates::words::write_asked(lines, &mut row);
-    let mut tallies = [0usize; 64];
+    let mut tallies = [0u8; 64];
     prices::write_tallies(value, &mut tallies);
     let mut costs = [0u32; 64];
     prices::write_prices(&mut costs);

@@ -1,7 +1,7 @@
 // The price of one gate.
 ghost use mathlib.Core.Path.{_≡_};
 ghost use Prim.Native.Nat.{_≤_, _<_};
-ghost use lib.ListN.{length};
+ghost use lib.ListN.{length, getD};
 ghost use Rattle.ranges.specs.Ranges.{span};
 ghost use Rattle.cascades.specs.Prices.{base, countedPrice, tally, tallied, controlsPrice};
 
@@ -54,7 +54,7 @@ pub fn write_prices(row: &mut [u32])
 }
 
 // What one control adds: 1, and 8 more where its value is not v; a line without one adds nothing.
-fn tally_one(v: u8, x: usize) -> usize
+fn tally_one(v: u8, x: usize) -> u8
     ensures { λ r. ⌜ (r ≡ tally v x) × (r ≤ 9) ⌝ }
 {
     if x == 3 {
@@ -67,7 +67,7 @@ fn tally_one(v: u8, x: usize) -> usize
 }
 
 // What three controls add, in a row by the number that they pack.
-pub fn write_tallies(v: u8, row: &mut [usize])
+pub fn write_tallies(v: u8, row: &mut [u8])
     requires { ⌜ length (now row) ≡ 64 ⌝ }
     ensures { λ _. ⌜ now (row .exit) ≡ span (tallied v) 0 64 ⌝ }
 {
@@ -78,11 +78,19 @@ pub fn write_tallies(v: u8, row: &mut [usize])
     }
 }
 
+// An entry of a row of small numbers.
+fn look_up(row: &[u8], c: usize) -> usize
+    requires { ⌜ c < length (now row) ⌝ }
+    ensures { λ r. ⌜ r ≡ getD (now (row .entry)) c 0 ⌝ }
+{
+    row[c] as usize
+}
+
 // The price of a gate's packed controls at the global control value v: what the lower three and the upper three add, and the price of that.
-pub fn price_controls(v: u8, controls: u16, tallies: &[usize], prices: &[u32]) -> u32
+pub fn price_controls(v: u8, controls: u16, tallies: &[u8], prices: &[u32]) -> u32
     requires { ⌜ (controls < 4096) × (now tallies ≡ span (tallied v) 0 64) × (now prices ≡ span countedPrice 0 64) ⌝ }
     ensures { λ r. ⌜ r ≡ controlsPrice v controls ⌝ }
 {
     let c = controls as usize;
-    prices[tallies[c % 64] + tallies[c / 64]]
+    prices[look_up(tallies, c % 64) + look_up(tallies, c / 64)]
 }

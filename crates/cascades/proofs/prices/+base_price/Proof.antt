@@ -1,5 +1,5 @@
 -- `cascades::prices::base_price` meets its contract: each return is a case of `base`, and the number that falls is k. Assumes nothing.
-use mathlib.Core.Path.{_≡_, sym}
+use mathlib.Core.Path.{sym}
 use Prim.Native.Nat.{ℕ, _-_, _<_}
 use native.Mathlib.Omega.{arith}
 use Rattle.cascades.proofs.Costs.{base-small, base-two, base-more, base-six}

@@ -1,13 +1,12 @@
 -- `cascades::prices::price_controls` meets its contract: two tallies, and the price of their sum. Assumes nothing.
 use mathlib.Core.Path.{_≡_, _∙_}
-use Prim.Native.Nat.{ℕ, _/_, _%_, _<_}
+use Prim.Native.Nat.{ℕ, _+_, _/_, _%_, _<_}
 use lib.ListN.{getD}
 use native.Mathlib.Omega.{arith}
 use native.Mathlib.Nat.{zero-add}
 use Rattle.ranges.proofs.Spans.{length-span, span-at}
 use Rattle.cascades.specs.Prices.{tallied, countedPrice}
 use Rattle.cascades.proofs.Tallies.{both-few, both-priced}
-use borrow.Author.Needs.{needs}
 use Rattle.cascades.proofs.prices.price_controls.Statement.{statement}
 use Rattle.cascades.proofs.prices.price_controls.Tie as tie
 
@@ -21,41 +20,38 @@ module _ (c : tie.Start) where
   up : c .args .controls / 64 < 64
   up = omega (arith, c .pre .0)
 
-mul-result : tie.Need-mul-result
-mul-result c = search needs
+module _ (c : tie.After-look-up2) where
+  sum-is : c .before .look-up .result + c .look-up2 .result ≡ tallied (c .before .before .before .before .args .v) (c .before .before .before .before .args .controls % 64) + tallied (c .before .before .before .before .args .v) (c .before .before .before .before .args .controls / 64)
+  sum-is = (let s = c .before .before .before .before in rw (c .before .look-up .ensures, c .look-up2 .ensures, entry s _ (low s), entry s _ (up s)))
 
-shared-slice-read-result : tie.Need-shared-slice-read-result
-shared-slice-read-result c = rw (c .before .pre .1, length-span) (low (c .before))
+  few : c .before .look-up .result + c .look-up2 .result < 64
+  few = rw sum-is (both-few _ _)
 
-mul-result-2 : tie.Need-mul-result-2
-mul-result-2 c = search needs
+look-up-requires : tie.Need-look-up-requires
+look-up-requires c κs = (let s = c .before .before in rw (s .pre .1, length-span) (low s))
 
-shared-slice-read-result-2 : tie.Need-shared-slice-read-result-2
-shared-slice-read-result-2 c = rw (c .before .before .pre .1, length-span) (up (c .before .before))
+look-up-requires-2 : tie.Need-look-up-requires-2
+look-up-requires-2 c κs = (let s = c .before .before .before in rw (s .pre .1, length-span) (up s))
 
 add-result : tie.Need-add-result
-add-result c = record { fits = (let s = c .before .before in rw (entry s _ (low s), entry s _ (up s)) (omega (arith, both-few (s .args .v) (s .args .controls)))) }
+add-result c = record { fits = omega (arith, few c) }
 
-mul-result-3 : tie.Need-mul-result-3
-mul-result-3 c = record { fits = (let s = c .before .before in rw (entry s _ (low s), entry s _ (up s)) (omega (arith, both-few (s .args .v) (s .args .controls)))) }
+mul-result : tie.Need-mul-result
+mul-result c = record { fits = omega (arith, few c) }
 
-shared-slice-read-result-3 : tie.Need-shared-slice-read-result-3
-shared-slice-read-result-3 c = (let s = c .before .before .before in rw (s .pre .2, length-span, entry s _ (low s), entry s _ (up s)) (both-few _ _))
+shared-slice-read-result : tie.Need-shared-slice-read-result
+shared-slice-read-result c = rw (c .before .before .before .before .before .pre .2, length-span) (few (c .before))
 
 returns : tie.Need-returns
-returns c =
-    let s = c .before .before .before in
-    rw (s .pre .2, entry s _ (low s), entry s _ (up s), span-at countedPrice 0 64 _ 0 (both-few (s .args .v) (s .args .controls)), zero-add) (both-priced _ _)
+returns c = rw (c .before .before .before .before .before .pre .2, span-at countedPrice 0 64 _ 0 (few (c .before)), zero-add, sum-is (c .before)) (both-priced _ _)
 
 pub price-controls-spec : {M : Type 1} → statement M
 price-controls-spec =
     tie.close
     (tie.spec
+    look-up-requires
+    look-up-requires-2
+    add-result
     mul-result
     shared-slice-read-result
-    mul-result-2
-    shared-slice-read-result-2
-    add-result
-    mul-result-3
-    shared-slice-read-result-3
     returns)

@@ -38,9 +38,6 @@ tally-one-requires-3 c κs = search needs
 add-row-2 : tie.Need-add-row-2 Inv-loop μ-loop
 add-row-2 c = record { fits = omega (arith, c .before .before .tally-one .ensures .1, c .before .tally-one2 .ensures .1, c .tally-one3 .ensures .1) }
 
-mul-row : tie.Need-mul-row Inv-loop μ-loop
-mul-row c = search needs
-
 slice-write-row : tie.Need-slice-write-row Inv-loop μ-loop
 slice-write-row c = omega (arith, long (c .before .before .before .before), c .before .before .before .loop-test .taken)
 
@@ -73,7 +70,6 @@ write-tallies-spec =
     add-row
     tally-one-requires-3
     add-row-2
-    mul-row
     slice-write-row
     add-c
     loop-less
