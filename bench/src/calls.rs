@@ -1,12 +1,13 @@
 //! Every call, timed on both sides.
 
 use std::cell::Cell;
+use std::hint::black_box;
 use std::time::Duration;
 
 use second::answer::Answer;
 use second::calls::Told;
-use second::file::Reader;
-use second::gate::RECORD;
+use second::file::Opening;
+use second::gate::{Gate, RECORD};
 use second::{cascade, choice, file, listing, sheet, synthesis, table, tidying};
 
 use crate::clock::{race, race_changing, Times};
@@ -14,6 +15,9 @@ use crate::inputs::{bound, file_of, patterns, table_file};
 use crate::proved::Library;
 
 const LIBRARY: Library = Library { null_if_empty: false };
+
+/// The second program's call for the gate at a place.
+type Next = fn(&[u8], u8, usize, usize) -> Answer<Option<Gate>>;
 
 /// The bytes of the longest listing.
 const LONGEST_LISTING: usize = 248_031;
@@ -153,7 +157,8 @@ impl Timer {
         )
     }
 
-    /// Opening, then gate by gate to the end. The second program uses its reader.
+    /// Opening, then gate by gate to the end. Each gate is one call on either side:
+    /// the second program's is hidden from the compiler, as the library's is.
     pub fn read_gates(&self, file: &[u8]) -> [Times; 2] {
         race(
             self.patience,
@@ -173,12 +178,14 @@ impl Timer {
                 }
             },
             |_| {
-                let mut reader = Reader::open(file);
+                let next: Next = black_box(file::next);
+                let Opening { lines, mut place, end } = second(file::opening(file));
                 let mut sum = 0;
-                while let Some(gate) = second(reader.next()) {
+                while let Some(gate) = second(next(file, lines, place, end)) {
                     let operator = gate.operator().number() as u64;
                     let controls = gate.packed_controls() as u64;
                     sum += operator + 256 * gate.target() as u64 + 65_536 * controls;
+                    place += RECORD;
                 }
                 sum
             },

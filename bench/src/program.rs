@@ -1,8 +1,9 @@
 //! The program `tiles`, from start to end of the process.
 
+use std::env;
 use std::fs::{self, File};
 use std::io;
-use std::path::Path;
+use std::path::{Path, PathBuf};
 use std::process::{Command, Stdio};
 use std::time::Instant;
 
@@ -21,11 +22,16 @@ const AIM: f64 = 0.003;
 /// output, beside a process that does nothing.
 pub fn print(root: &Path) {
     println!();
-    if !cfg!(target_arch = "x86_64") {
-        println!("the program tiles isn't timed: it is built for x86-64, which this machine isn't");
-        return;
-    }
-    let program = root.join("target/bin/tiles");
+    let program = match env::var_os("TILES_PROGRAM") {
+        Some(named) => PathBuf::from(named),
+        None if cfg!(target_arch = "x86_64") => root.join("target/bin/tiles"),
+        None => {
+            println!(
+                "the program tiles isn't timed: it is built for x86-64, which this machine isn't"
+            );
+            return;
+        }
+    };
     let table = root.join("examples/door6.table");
     match start_in_turn(&program, &table) {
         Ok([tiles, nothing]) => {

@@ -1,5 +1,6 @@
 // The search for a record that is no gate.
 ghost use mathlib.Core.Path.{_≡_};
+ghost use mathlib.Core.Bool.{true};
 ghost use Prim.Native.Nat.{_*_, _≤_};
 ghost use lib.Dec.{eqb};
 ghost use Rattle.ranges.specs.Ranges.{every, span};
@@ -34,7 +35,29 @@ fn all_gates(lines: u8, cascade: &[u8]) -> bool
     all_faults(lines, &row, cascade) == 0
 }
 
-// The first record that is no gate on so many lines, or the number of records, one by one.
+// Many records, and each a gate. It is not told of few: to make the row takes longer than to look at them one by one.
+pub fn many_gates(lines: u8, cascade: &[u8]) -> bool
+    requires { ⌜ lines ≤ 6 ⌝ }
+    ensures { λ r. ⌜ (r ≡ true → firstBad lines (now (cascade .entry)) ≡ records (now (cascade .entry))) ⌝ }
+{
+    if cascade.len() < 512 {
+        return false;
+    }
+    all_gates(lines, cascade)
+}
+
+// The first record that is no gate on so many lines, or the number of records. As a rule each is a gate.
+pub fn first_bad(lines: u8, cascade: &[u8]) -> usize
+    requires { ⌜ lines ≤ 6 ⌝ }
+    ensures { λ r. ⌜ r ≡ firstBad lines (now (cascade .entry)) ⌝ }
+{
+    if many_gates(lines, cascade) {
+        return cascade.len() / 8;
+    }
+    search_bad(lines, cascade)
+}
+
+// The same, one by one.
 fn search_bad(lines: u8, cascade: &[u8]) -> usize
     requires { ⌜ lines ≤ 6 ⌝ }
     ensures { λ r. ⌜ r ≡ firstBad lines (now (cascade .entry)) ⌝ }
@@ -49,18 +72,4 @@ fn search_bad(lines: u8, cascade: &[u8]) -> usize
         i = i + 1;
     }
     i
-}
-
-// The same. Many are looked at together first: as a rule each is a gate.
-pub fn first_bad(lines: u8, cascade: &[u8]) -> usize
-    requires { ⌜ lines ≤ 6 ⌝ }
-    ensures { λ r. ⌜ r ≡ firstBad lines (now (cascade .entry)) ⌝ }
-{
-    if cascade.len() < 512 {
-        return search_bad(lines, cascade);
-    }
-    if all_gates(lines, cascade) {
-        return cascade.len() / 8;
-    }
-    search_bad(lines, cascade)
 }

@@ -4,10 +4,7 @@ ghost use mathlib.Core.List.{_∷_, []};
 ghost use Prim.Native.Nat.{_+_, _^_, _≤_, _<_};
 ghost use lib.Dec.{leb};
 ghost use lib.ListN.{length};
-ghost use mathlib.Core.Bool.{true};
-ghost use Rattle.ranges.specs.Ranges.{span};
-ghost use Rattle.card.specs.Card.{linesOk, onLines, Answer.accepted};
-ghost use Rattle.gates.specs.Words.{asked};
+ghost use Rattle.card.specs.Card.{onLines, Answer.accepted};
 ghost use Rattle.cascades.specs.Answers.{sound};
 ghost use Rattle.files.specs.Files.{numberAt, frameOk};
 ghost use Rattle.files.specs.Readers.{openingAs, recordStands};
@@ -52,37 +49,7 @@ pub fn frame_ok(file: &[u8]) -> bool
     end - distance <= 1024
 }
 
-// The records between two places of a file are gates, by the row of what is asked of each: refusals 6 and 7.
-fn gates_by(lines: u8, row: &[u64], records: &[u8], at: usize, end: usize) -> Extent
-    requires { ⌜ (linesOk lines ≡ true) × (now row ≡ span (asked lines) 0 64) ⌝ }
-    ensures { λ r. ⌜ openingAs r ≡ sound lines (now (records .entry)) (accepted (lines ∷ at ∷ end ∷ [])) ⌝ }
-{
-    if !cascades::lengths::length_ok(records.len()) {
-        return Extent::Refused {
-            number: 6,
-            place: 0,
-        };
-    }
-    let count = records.len() / 8;
-    let mut i: usize = 0;
-    while i < count {
-        let Record::Gate {
-            operator: _,
-            target: _,
-            controls: _,
-        } = gates::decode_by(lines, row, records, 8 * i)
-        else {
-            return Extent::Refused {
-                number: 7,
-                place: i,
-            };
-        };
-        i = i + 1;
-    }
-    Extent::Frame { lines, at, end }
-}
-
-// The same, with a row of its own: refusals 1, 6, 7.
+// The records between two places of a file are gates: refusals 1, 6, 7.
 pub fn gates_between(lines: u8, records: &[u8], at: usize, end: usize) -> Extent
     ensures { λ r. ⌜ openingAs r ≡ onLines lines (sound lines (now (records .entry)) (accepted (lines ∷ at ∷ end ∷ []))) ⌝ }
 {
@@ -92,9 +59,33 @@ pub fn gates_between(lines: u8, records: &[u8], at: usize, end: usize) -> Extent
             place: 0,
         };
     }
-    let mut row = [0u64; 64];
-    gates::words::write_asked(lines, &mut row);
-    gates_by(lines, &row, records, at, end)
+    if !cascades::lengths::length_ok(records.len()) {
+        return Extent::Refused {
+            number: 6,
+            place: 0,
+        };
+    }
+    // As a rule each of many is a gate; else the first that is none is looked for.
+    if cascades::scan::many_gates(lines, records) {
+        return Extent::Frame { lines, at, end };
+    }
+    let count = records.len() / 8;
+    let mut i: usize = 0;
+    while i < count {
+        let Record::Gate {
+            operator: _,
+            target: _,
+            controls: _,
+        } = gates::decode(lines, records, 8 * i)
+        else {
+            return Extent::Refused {
+                number: 7,
+                place: i,
+            };
+        };
+        i = i + 1;
+    }
+    Extent::Frame { lines, at, end }
 }
 
 // The 8 bytes from a place on end at an offset or before it. The sum is not made: it might wrap around.
