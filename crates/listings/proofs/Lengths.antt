@@ -9,6 +9,7 @@ use native.Mathlib.Nat.{mul-suc}
 use native.Mathlib.Omega.{arith}
 use lib.Dec.{eqb}
 use lib.ListN.{length, getD, length-append}
+use borrow.Author.Tests.{lt-ltb, le-ltb}
 use Rattle.ranges.specs.Ranges.{sum, span}
 use Rattle.ranges.specs.Lists.{Each}
 use Rattle.ranges.proofs.Sums.{sum-ext, sum-le, sum-le-but}
@@ -25,7 +26,7 @@ use Rattle.gates.proofs.Marks.{marks-counted}
 use Rattle.cascades.specs.Cascades.{Cascade}
 use Rattle.cascades.specs.Prices.{cascadePrice}
 use Rattle.cascades.proofs.Costs.{cost-fits}
-use Rattle.listings.specs.Texts.{ascii, width, decimal}
+use Rattle.listings.specs.Texts.{ascii, width, decimal, missingIn}
 use Rattle.listings.specs.Listings.{joined, nameOf, lineText, controlText, gateText, gateTexts, headText, listingText}
 use Rattle.listings.proofs.Decimals.{length-decimal, width-le, width-small}
 use Rattle.listings.proofs.Layouts.{name-two, name-one, control-at, gate-parts, head-parts}
@@ -96,6 +97,11 @@ module _ (n : ℕ) (b : List ℕ) (at : ℕ) (six : n ≤ 6) (is : isRecord n b 
   pub record-one : 3 ≤ getD b at 0 → 1 + (4 + sum (bytesAt b at) 0 6) ≡ length (gateText (gateAt b at))
   record-one le = sym (length-record ∙ rw (name-one (getD b at 0) le (reads n b at is .op-high)))
 
+  -- a line has at least a name of one byte, a target and the newline
+  pub record-least : 5 ≤ length (gateText (gateAt b at))
+  record-least =
+      ⊎-elim (λ (l : getD b at 0 < 3). omega (arith, record-two l)) (λ (l : 3 ≤ getD b at 0). omega (arith, record-one l)) (lt-or-le (getD b at 0) 3)
+
 name-most : (o : ℕ) → 1 ≤ o → o ≤ 5 → length (nameOf o) ≤ 2
 name-most o low high =
     ⊎-elim (λ (l : o < 3). omega (arith, ap length (name-two o low l))) (λ (l : 3 ≤ o). omega (arith, name-one o l high)) (lt-or-le o 3)
@@ -131,3 +137,19 @@ listing-lines n gs six c = omega (arith, length-listing n gs, head-most n gs six
 -- so the listing of any cascade has at most 248,031 bytes
 pub listing-most : (n : ℕ) (gs : List Gate) → n ≤ 6 → Cascade n gs → length (listingText n gs) ≤ 248031
 listing-most n gs six c = omega (arith, listing-lines n gs six c, c .most)
+
+-- what is said of a room that has place for a text, and of one that hasn't
+module _ (room size : ℕ) where
+  pub missing-yes : room < size → missingIn room size ≡ size
+  unfolding missingIn
+  missing-yes lt = rw (lt-ltb room size lt)
+
+  pub missing-no : size ≤ room → missingIn room size ≡ 0
+  unfolding missingIn
+  missing-no le = rw (le-ltb room size le)
+
+  pub missing-some : (r : ℕ) → r ≡ missingIn room size → 0 < r → (r ≡ size) × (room < size)
+  missing-some r e pos = ⊎-elim (λ (lt : room < size). (e ∙ missing-yes lt, lt)) (λ (le : size ≤ room). absurd (omega (arith, e ∙ missing-no le))) (lt-or-le room size)
+
+  pub missing-none : (r : ℕ) → r ≡ missingIn room size → r ≤ 0 → size ≤ room
+  missing-none r e none = ⊎-elim (λ (lt : room < size). absurd (omega (arith, e ∙ missing-yes lt))) (λ (le : size ≤ room). le) (lt-or-le room size)

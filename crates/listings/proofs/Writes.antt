@@ -6,9 +6,10 @@ use native.Mathlib.Nat.{add-zero}
 use native.Mathlib.Numerals.{add-one, add-two}
 use native.Mathlib.Omega.{arith}
 use lib.ListN.{length, set, length-append}
-use lib.Seq.{sets, length-sets}
+use lib.Seq.{length-sets}
 use Rattle.ranges.proofs.Stores.{sets-append}
 use Rattle.listings.specs.Texts.{Written}
+use Rattle.listings.specs.Pieces.{Writing}
 
 pub written-long : {room text now : List ℕ} {at next : ℕ} → Written room at text now next → length now ≡ length room
 written-long {room} {text} {now} {at} w = ap length (w .stored) ∙ length-sets room at text
@@ -21,12 +22,6 @@ written-two room at u v = record { stored = rw add-one; behind = refl }
 
 pub written-three : (room : List ℕ) (at u v w : ℕ) → Written room at (u ∷ v ∷ w ∷ []) (set (set (set room at u) (at + 1) v) (at + 2) w) (at + 3)
 written-three room at u v w = record { stored = rw (add-one, add-two); behind = refl }
-
--- the text goes to place at of room₀; what is left of it goes to place to of room
-pub record Writing (room₀ : List ℕ) (at : ℕ) (text room : List ℕ) (to : ℕ) (left : List ℕ) : Type 0 where
-  pub same : sets room to left ≡ sets room₀ at text
-  pub ahead : to + length left ≡ at + length text
-  pub long : length room ≡ length room₀
 
 pub writing-start : (room : List ℕ) (at : ℕ) (text : List ℕ) → Writing room at text room at text
 writing-start room at text = record { same = refl; ahead = refl; long = refl }

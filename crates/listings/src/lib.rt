@@ -4,6 +4,7 @@ ghost use lib.ListN.{length};
 ghost use Rattle.listings.specs.Listings.{listedAs, listingAnswer, listingRoom};
 
 pub mod numbers;
+mod pieces;
 mod sizes;
 pub mod texts;
 mod writing;
@@ -24,15 +25,14 @@ pub fn listing(lines: u8, cascade: &[u8], room: &mut [u8]) -> Listed
     match cascades::price(lines, 2, cascade) {
         Priced::Refused { number, place } => Listed::Refused { number, place },
         Priced::Cost(cost) => {
-            let size = sizes::size_listing(lines, cascade, cost);
-            if room.len() < size {
+            let size = sizes::missing(lines, cascade, cost, room.len());
+            if 0 < size {
                 return Listed::Refused {
                     number: 5,
                     place: size,
                 };
             }
-            writing::write_listing(lines, cascade, cost, room);
-            Listed::Bytes(size)
+            Listed::Bytes(writing::write_listing(lines, cascade, cost, room))
         }
     }
 }

@@ -8,6 +8,7 @@ ghost use Rattle.ranges.specs.Ranges.{sum};
 ghost use Rattle.gates.specs.Records.{isRecord, gateAt};
 ghost use Rattle.cascades.specs.Cascades.{Whole, records, gatesOf};
 ghost use Rattle.cascades.specs.Prices.{cascadePrice};
+ghost use Rattle.listings.specs.Texts.{missingIn};
 ghost use Rattle.listings.specs.Listings.{gateText, gateTexts, listingText};
 use super::numbers;
 
@@ -49,7 +50,7 @@ fn size_gates(lines: u8, cascade: &[u8]) -> usize
 }
 
 // The bytes of the whole listing; the head line's own words have 20.
-pub fn size_listing(lines: u8, cascade: &[u8], cost: u32) -> usize
+fn size_listing(lines: u8, cascade: &[u8], cost: u32) -> usize
     requires { ⌜ Whole lines (now cascade) (records (now cascade)) ⌝ }
     requires { ⌜ cost ≡ cascadePrice 2 (gatesOf (now cascade)) ⌝ }
     ensures { λ r. ⌜ r ≡ length (listingText lines (gatesOf (now (cascade .entry)))) ⌝ }
@@ -58,4 +59,20 @@ pub fn size_listing(lines: u8, cascade: &[u8], cost: u32) -> usize
     let m = numbers::size_decimal(cascade.len() / 8);
     let v = numbers::size_decimal(cost as usize);
     20 + n + m + v + size_gates(lines, cascade)
+}
+
+// The bytes of the listing if a room of so many has no place for it, and else 0. A line has at most 31 bytes, so a large room is known to do.
+pub fn missing(lines: u8, cascade: &[u8], cost: u32, room: usize) -> usize
+    requires { ⌜ Whole lines (now cascade) (records (now cascade)) ⌝ }
+    requires { ⌜ cost ≡ cascadePrice 2 (gatesOf (now cascade)) ⌝ }
+    ensures { λ r. ⌜ r ≡ missingIn room (length (listingText lines (gatesOf (now (cascade .entry))))) ⌝ }
+{
+    if 31 + 31 * (cascade.len() / 8) <= room {
+        return 0;
+    }
+    let size = size_listing(lines, cascade, cost);
+    if room < size {
+        return size;
+    }
+    0
 }

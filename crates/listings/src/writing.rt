@@ -10,6 +10,8 @@ ghost use Rattle.cascades.specs.Cascades.{Whole, records, gatesOf};
 ghost use Rattle.cascades.specs.Prices.{cascadePrice};
 ghost use Rattle.listings.specs.Texts.{Written};
 ghost use Rattle.listings.specs.Listings.{nameOf, lineText, controlText, joined, gateText, gateTexts, headText, listingText};
+ghost use Rattle.listings.specs.Pieces.{linesFrom};
+use super::pieces;
 use super::texts;
 
 // The letter of N, D and E.
@@ -97,20 +99,33 @@ fn write_gate(lines: u8, cascade: &[u8], from: usize, room: &mut [u8], at: usize
     done + 1
 }
 
-// The lines of all gates.
+// The lines of the gates from one on.
+fn write_from(lines: u8, cascade: &[u8], first: usize, room: &mut [u8], at: usize) -> usize
+    requires { ⌜ (Whole lines (now cascade) (records (now cascade))) × (first ≤ records (now cascade)) × (at + length (linesFrom (now cascade) first) ≤ length (now room)) ⌝ }
+    ensures { λ r. ⌜ Written (now (room .entry)) at (linesFrom (now (cascade .entry)) first) (now (room .exit)) r ⌝ }
+{
+    let m = cascade.len() / 8;
+    let mut to = at;
+    let mut i = first;
+    while i < m {
+        to = write_gate(lines, cascade, 8 * i, room, to);
+        i = i + 1;
+    }
+    to
+}
+
+// The lines of all gates. Those of the last four are written byte by byte: nothing follows that would write over what is too much.
 fn write_gates(lines: u8, cascade: &[u8], room: &mut [u8], at: usize) -> usize
     requires { ⌜ Whole lines (now cascade) (records (now cascade)) ⌝ }
     requires { ⌜ at + length (gateTexts (gatesOf (now cascade))) ≤ length (now room) ⌝ }
     ensures { λ r. ⌜ Written (now (room .entry)) at (gateTexts (gatesOf (now (cascade .entry)))) (now (room .exit)) r ⌝ }
 {
     let m = cascade.len() / 8;
-    let mut to = at;
-    let mut i: usize = 0;
-    while i < m {
-        to = write_gate(lines, cascade, 8 * i, room, to);
-        i = i + 1;
+    if m < 8 {
+        return write_from(lines, cascade, 0, room, at);
     }
-    to
+    let to = pieces::put_first(lines, cascade, m - 4, room, at);
+    write_from(lines, cascade, m - 4, room, to)
 }
 
 // The head line, from the start of the room on.

@@ -2,6 +2,7 @@
 use mathlib.Core.Path.{_≡_, sym, ap, _∙_}
 use Prim.Native.Nat.{_≤_}
 use borrow.Author.Tests.{lt-ltb, le-ltb}
+use native.Mathlib.Nat.{zero-add}
 use native.Mathlib.Omega.{arith}
 use Rattle.card.proofs.Cards.{refusing-yes, refusing-no, refused-both, accepted-both, sets-laid}
 use Rattle.cascades.specs.Cascades.{records, gatesOf, Whole}
@@ -10,6 +11,7 @@ use Rattle.cascades.specs.Answers.{pricedAs}
 use Rattle.cascades.proofs.Answers.{passed}
 use Rattle.cascades.proofs.Sounds.{price-whole, price-value, price-refused}
 use Rattle.listings.specs.Listings.{listingAnswer, listingRoom}
+use Rattle.listings.proofs.Lengths.{missing-some, missing-none}
 use Rattle.listings.proofs.Writes.{written-long}
 use borrow.Author.Needs.{needs}
 use Rattle.listings.proofs.listing.Statement.{statement}
@@ -35,20 +37,20 @@ enum-known-number c = search needs
 enum-known-cost : tie.Need-enum-known-cost
 enum-known-cost c = search needs
 
-size-listing-requires : tie.Need-size-listing-requires
-size-listing-requires c κs = (whole c, cost-is c)
+missing-requires : tie.Need-missing-requires
+missing-requires c κs = (whole c, cost-is c)
 
 returns : tie.Need-returns
 unfolding listingAnswer listingRoom
 returns c =
     let d = c .before .before in
-    let e = c .before .size-listing .ensures in
-    rw e (refused-both _ _ _ _ _ (passed _ _ _ _ (whole d) ∙ refusing-yes _ _ _ _ (lt-ltb _ _ (rw e at (c .if1 .taken)))))
+    let short = missing-some _ _ _ (c .before .missing .ensures) (c .if1 .taken) in
+    rw (short .0) (refused-both _ _ _ _ _ (passed _ _ _ _ (whole d) ∙ refusing-yes _ _ _ _ (lt-ltb _ _ (short .1))))
 
 write-listing-requires : tie.Need-write-listing-requires
 write-listing-requires c κs =
     let d = c .before .before .before in
-    (whole d, cost-is d, rw (c .before .before .size-listing .ensures) at (c .before .if1 .left))
+    (whole d, cost-is d, missing-none _ _ _ (c .before .before .missing .ensures) (c .before .if1 .left))
 
 returns-2 : tie.Need-returns-2
 unfolding listingAnswer listingRoom
@@ -64,9 +66,9 @@ unfolding listingAnswer listingRoom
 returns-3 c =
     let d = c .before .before .before .before in
     let w = whole (d .before .before) in
-    let e = d .before .size-listing .ensures in
-    let fits = rw e at (d .if1 .left) in
-    rw e (accepted-both _ _ _ _ _ (passed _ _ _ _ w ∙ refusing-no _ _ _ _ (le-ltb _ _ fits)) (c .before .before .write-listing .ensures .stored ∙ sets-laid _ _ fits))
+    let fits = missing-none _ _ _ (d .before .missing .ensures) (d .if1 .left) in
+    let written = c .before .before .write-listing .ensures in
+    rw (written .behind, zero-add) (accepted-both _ _ _ _ _ (passed _ _ _ _ w ∙ refusing-no _ _ _ _ (le-ltb _ _ fits)) (written .stored ∙ sets-laid _ _ fits))
 
 pub listing-spec : {M : Type 1} → statement M
 listing-spec =
@@ -75,7 +77,7 @@ listing-spec =
     price-requires
     enum-known-number
     enum-known-cost
-    size-listing-requires
+    missing-requires
     returns
     write-listing-requires
     returns-2

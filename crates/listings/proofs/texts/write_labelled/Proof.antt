@@ -1,7 +1,8 @@
 -- `listings::texts::write_labelled` meets its contract: two pieces, one behind the other. Assumes nothing.
 use mathlib.Core.List.{_++_}
 use Rattle.listings.specs.Texts.{decimal}
-use Rattle.listings.proofs.Writes.{Writing, written-long, writing-start, writing-next, writing-last, left-fits, first-fits}
+use Rattle.listings.specs.Pieces.{Writing}
+use Rattle.listings.proofs.Writes.{written-long, writing-start, writing-next, writing-last, left-fits, first-fits}
 use Rattle.listings.proofs.texts.write_labelled.Statement.{statement}
 use Rattle.listings.proofs.texts.write_labelled.Tie as tie
 

@@ -8,7 +8,8 @@ use lib.ListN.{length, getD, set, drop, drop-of-length-le}
 use lib.Seq.{drop-cons}
 use borrow.Author.Needs.{needs}
 use native.Mathlib.Omega.{arith}
-use Rattle.listings.proofs.Writes.{Writing, writing-start, writing-next, writing-end, written-byte}
+use Rattle.listings.specs.Pieces.{Writing}
+use Rattle.listings.proofs.Writes.{writing-start, writing-next, writing-end, written-byte}
 use Rattle.listings.proofs.texts.write_text.Statement.{statement}
 use Rattle.listings.proofs.texts.write_text.Tie as tie
 

@@ -7,7 +7,8 @@ use Rattle.gates.specs.Records.{gateAt}
 use Rattle.gates.proofs.Records.{reads, byte-lt}
 use Rattle.listings.specs.Listings.{lineText, controlText}
 use Rattle.listings.proofs.Layouts.{control-absent, control-present}
-use Rattle.listings.proofs.Writes.{Writing, written-long, written-two, writing-start, writing-next, writing-last, writing-end, left-fits, first-fits}
+use Rattle.listings.specs.Pieces.{Writing}
+use Rattle.listings.proofs.Writes.{written-long, written-two, writing-start, writing-next, writing-last, writing-end, left-fits, first-fits}
 use native.Mathlib.Omega.{arith}
 use borrow.Author.Needs.{needs}
 use Rattle.listings.proofs.writing.write_control.Statement.{statement}

@@ -11,7 +11,8 @@ use Rattle.gates.specs.Records.{isRecord, gateAt}
 use Rattle.listings.specs.Texts.{Written}
 use Rattle.listings.specs.Listings.{joined, controlText}
 use Rattle.listings.proofs.Layouts.{joined-more, joined-ends}
-use Rattle.listings.proofs.Writes.{Writing, writing-start, writing-next, writing-end, piece-fits}
+use Rattle.listings.specs.Pieces.{Writing}
+use Rattle.listings.proofs.Writes.{writing-start, writing-next, writing-end, piece-fits}
 use Rattle.listings.proofs.writing.write_controls.Statement.{statement}
 use Rattle.listings.proofs.writing.write_controls.Tie as tie
 

@@ -8,7 +8,8 @@ use Rattle.gates.specs.Records.{gateAt}
 use Rattle.gates.proofs.Records.{Reads, reads}
 use Rattle.listings.specs.Listings.{joined, nameOf, lineText, controlText}
 use Rattle.listings.proofs.Layouts.{record-parts}
-use Rattle.listings.proofs.Writes.{Writing, written-byte, writing-start, writing-next, writing-last, left-fits, piece-fits, first-fits}
+use Rattle.listings.specs.Pieces.{Writing}
+use Rattle.listings.proofs.Writes.{written-byte, writing-start, writing-next, writing-last, left-fits, piece-fits, first-fits}
 use Rattle.listings.proofs.writing.write_gate.Statement.{statement}
 use Rattle.listings.proofs.writing.write_gate.Tie as tie
 

@@ -10,7 +10,8 @@ use Rattle.cascades.proofs.Cascades.{gates-count}
 use Rattle.listings.specs.Texts.{ascii, decimal}
 use Rattle.listings.specs.Listings.{headText}
 use Rattle.listings.proofs.Layouts.{head-parts}
-use Rattle.listings.proofs.Writes.{Writing, written-byte, writing-start, writing-next, writing-last, left-fits, piece-fits, first-fits}
+use Rattle.listings.specs.Pieces.{Writing}
+use Rattle.listings.proofs.Writes.{written-byte, writing-start, writing-next, writing-last, left-fits, piece-fits, first-fits}
 use borrow.Author.Needs.{needs}
 use Rattle.listings.proofs.writing.write_head.Statement.{statement}
 use Rattle.listings.proofs.writing.write_head.Tie as tie

@@ -5,7 +5,8 @@ use lib.ListN.{length}
 use native.Mathlib.Omega.{arith}
 use Rattle.cascades.specs.Cascades.{gatesOf}
 use Rattle.listings.specs.Listings.{headText, gateTexts, listingText}
-use Rattle.listings.proofs.Writes.{Writing, written-long, writing-start, writing-next, writing-last, left-fits, first-fits}
+use Rattle.listings.specs.Pieces.{Writing}
+use Rattle.listings.proofs.Writes.{written-long, writing-start, writing-next, writing-last, left-fits, first-fits}
 use Rattle.listings.proofs.writing.write_listing.Statement.{statement}
 use Rattle.listings.proofs.writing.write_listing.Tie as tie
 

@@ -6,7 +6,8 @@ use native.Mathlib.Nat.{zero-add}
 use lib.ListN.{length, length-set}
 use native.Mathlib.Omega.{arith}
 use Rattle.listings.specs.Texts.{ascii, decimal}
-use Rattle.listings.proofs.Writes.{Writing, written-byte, writing-start, writing-next, writing-last, left-fits, piece-fits, first-fits}
+use Rattle.listings.specs.Pieces.{Writing}
+use Rattle.listings.proofs.Writes.{written-byte, writing-start, writing-next, writing-last, left-fits, piece-fits, first-fits}
 use Rattle.sheets.specs.Sheets.{sheetText}
 use Rattle.sheets.proofs.Answers.{refusal-parts}
 use borrow.Author.Needs.{needs}
