@@ -1,5 +1,5 @@
--- Whole pieces: one stored over what the one before left behind its text, and one whose spill is behind it covered by the text that follows.
--- A gate's line is an operator and a target, three pairs of controls, and the newline. Assumes nothing.
+-- Whole pieces: a piece stored over what the one before spilled, and lines that cover what is spilled behind them. Words carry a text where the test
+-- says so, and a gate's line is an operator with a target, three pairs of controls and the newline. Assumes nothing.
 use mathlib.Core.Path.{_≡_, refl, ap, _∙_}
 use mathlib.Core.Bool.{true, false}
 use mathlib.Core.List.{List, [], _∷_, _++_, append-assoc, append-nil}

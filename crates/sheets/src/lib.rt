@@ -1,9 +1,10 @@
 // The program's text for a table file.
 ghost use mathlib.Core.Path.{_≡_};
 ghost use mathlib.Core.Bool.{true};
-ghost use Prim.Native.Nat.{_+_, _*_, _^_};
+ghost use Prim.Native.Nat.{_+_, _*_, _/_, _^_, _≤_};
 ghost use lib.ListN.{length};
 ghost use Rattle.card.specs.Card.{linesOk};
+ghost use Rattle.synthesis.specs.Synthesis.{bound};
 ghost use Rattle.listings.specs.Listings.{listedAs};
 ghost use Rattle.sheets.specs.Sheets.{linesOf, sheetAnswer, sheetRoom, Holds};
 
@@ -13,9 +14,9 @@ mod refusals;
 use cascades::Counted;
 use listings::Listed;
 
-// The listing of the table's cascade, or the line of its refusal. The cascade's room has 4,010 records, enough for six lines.
+// The listing of the table's cascade, or the line of its refusal. The cascade's room has as many records as any table of so many lines needs.
 fn tell(lines: u8, file: &[u8], table: &[u16], cascade: &mut [u8], room: &mut [u8]) -> Listed
-    requires { ⌜ (Holds (now file) lines (now table)) × (length (now cascade) ≡ 8 * 4010) ⌝ }
+    requires { ⌜ (Holds (now file) lines (now table)) × (bound lines ≤ length (now cascade) / 8) ⌝ }
     ensures { λ r. ⌜ listedAs r ≡ sheetAnswer (now (file .entry)) (length (now (room .entry))) ⌝ }
     ensures { λ r. ⌜ now (room .exit) ≡ sheetRoom (now (file .entry)) (now (room .entry)) ⌝ }
 {
@@ -25,14 +26,49 @@ fn tell(lines: u8, file: &[u8], table: &[u16], cascade: &mut [u8], room: &mut [u
     }
 }
 
-// The same, with a cascade's room of its own.
-fn with_cascade(lines: u8, file: &[u8], table: &[u16], room: &mut [u8]) -> Listed
-    requires { ⌜ Holds (now file) lines (now table) ⌝ }
+// The same, with a room of its own for 284 records: enough for four lines.
+fn with_few(lines: u8, file: &[u8], table: &[u16], room: &mut [u8]) -> Listed
+    requires { ⌜ (Holds (now file) lines (now table)) × (bound lines ≤ 284) ⌝ }
+    ensures { λ r. ⌜ listedAs r ≡ sheetAnswer (now (file .entry)) (length (now (room .entry))) ⌝ }
+    ensures { λ r. ⌜ now (room .exit) ≡ sheetRoom (now (file .entry)) (now (room .entry)) ⌝ }
+{
+    let mut cascade = [0u8; 2272];
+    tell(lines, file, table, &mut cascade, room)
+}
+
+// With one for 1,094: enough for five.
+fn with_more(lines: u8, file: &[u8], table: &[u16], room: &mut [u8]) -> Listed
+    requires { ⌜ (Holds (now file) lines (now table)) × (bound lines ≤ 1094) ⌝ }
+    ensures { λ r. ⌜ listedAs r ≡ sheetAnswer (now (file .entry)) (length (now (room .entry))) ⌝ }
+    ensures { λ r. ⌜ now (room .exit) ≡ sheetRoom (now (file .entry)) (now (room .entry)) ⌝ }
+{
+    let mut cascade = [0u8; 8752];
+    tell(lines, file, table, &mut cascade, room)
+}
+
+// With one for 4,010: enough for six.
+fn with_most(lines: u8, file: &[u8], table: &[u16], room: &mut [u8]) -> Listed
+    requires { ⌜ (Holds (now file) lines (now table)) × (bound lines ≤ 4010) ⌝ }
     ensures { λ r. ⌜ listedAs r ≡ sheetAnswer (now (file .entry)) (length (now (room .entry))) ⌝ }
     ensures { λ r. ⌜ now (room .exit) ≡ sheetRoom (now (file .entry)) (now (room .entry)) ⌝ }
 {
     let mut cascade = [0u8; 32080];
     tell(lines, file, table, &mut cascade, room)
+}
+
+// The same, with a cascade's room of its own. It starts as zeros, so a small table gets a small one.
+fn with_cascade(lines: u8, file: &[u8], table: &[u16], room: &mut [u8]) -> Listed
+    requires { ⌜ Holds (now file) lines (now table) ⌝ }
+    ensures { λ r. ⌜ listedAs r ≡ sheetAnswer (now (file .entry)) (length (now (room .entry))) ⌝ }
+    ensures { λ r. ⌜ now (room .exit) ≡ sheetRoom (now (file .entry)) (now (room .entry)) ⌝ }
+{
+    if lines < 5 {
+        return with_few(lines, file, table, room);
+    }
+    if lines < 6 {
+        return with_more(lines, file, table, room);
+    }
+    with_most(lines, file, table, room)
 }
 
 // The same, for the file's entries, read into a lent table.

@@ -1,7 +1,7 @@
 -- `sheets::tell` meets its contract: what synthesis refuses the file is refused, and what it makes is listed. Assumes nothing.
 use mathlib.Core.Path.{_≡_, sym, ap, _∙_}
 use mathlib.Core.List.{List}
-use Prim.Native.Nat.{ℕ, _*_, _/_, _≤_}
+use Prim.Native.Nat.{ℕ, _*_, _≤_}
 use lib.ListN.{length, take}
 use lib.Seq.{length-take-le, take-at}
 use native.Mathlib.Omega.{arith}
@@ -12,16 +12,12 @@ use Rattle.gates.specs.declared.Gate.{Gate}
 use Rattle.cascades.specs.Cascades.{bytesOf}
 use Rattle.cascades.specs.Answers.{countedAs}
 use Rattle.cascades.proofs.Stored.{length-bytes}
-use Rattle.synthesis.specs.Synthesis.{synthesized, bound}
-use Rattle.synthesis.proofs.Synthesis.{bound-most, synthesized-bound}
+use Rattle.synthesis.specs.Synthesis.{synthesized}
+use Rattle.synthesis.proofs.Synthesis.{synthesized-bound}
 use Rattle.sheets.proofs.Answers.{made-refused, made-permutation, made-count, made-room, told-listing, told-room}
 use borrow.Author.Needs.{needs}
 use Rattle.sheets.proofs.tell.Statement.{statement}
 use Rattle.sheets.proofs.tell.Tie as tie
-
-module _ (c : tie.Start) where
-  wide : bound (c .args .lines) ≤ length (c .args .cascade .now) / 8
-  wide = omega (arith, bound-most (c .args .lines) (lines-are _ (c .pre .0 .lines) .1), c .pre .1)
 
 -- what synthesis has made
 module _ (c : tie.After-known-told2) where
@@ -32,25 +28,25 @@ module _ (c : tie.After-known-told2) where
   gates = synthesized (start .args .lines) (start .args .table .now)
 
   perm : Permutation 3 (start .args .lines) (start .args .table .now)
-  perm = made-permutation _ _ _ (start .pre .0) _ (wide start) _ (ap countedAs (sym (c .before .m .given .1)) ∙ c .before .before .before .before .before .synthesize .ensures .0)
+  perm = made-permutation _ _ _ (start .pre .0) _ (start .pre .1) _ (ap countedAs (sym (c .before .m .given .1)) ∙ c .before .before .before .before .before .synthesize .ensures .0)
 
   count : c .before .m .given .0 .0 ≡ length gates
-  count = made-count _ _ _ (start .pre .0) _ (wide start) _ (ap countedAs (sym (c .before .m .given .1)) ∙ c .before .before .before .before .before .synthesize .ensures .0)
+  count = made-count _ _ _ (start .pre .0) _ (start .pre .1) _ (ap countedAs (sym (c .before .m .given .1)) ∙ c .before .before .before .before .before .synthesize .ensures .0)
 
-  few : c .before .m .given .0 .0 ≤ 4010
+  few : 8 * c .before .m .given .0 .0 ≤ length (start .args .cascade .now)
   few =
       let six = lines-are _ (start .pre .0 .lines) .1 in
-      omega (arith, count, synthesized-bound (start .args .lines) (start .args .table .now) six perm, bound-most (start .args .lines) six)
+      omega (arith, count, synthesized-bound (start .args .lines) (start .args .table .now) six perm, start .pre .1)
 
-  long : length (c .before .before .before .before .before .synthesize .last .1 .1 .0) ≡ 8 * 4010
-  long = c .before .before .before .before .before .synthesize .kept .1 .1 .0 ∙ start .pre .1
+  long : length (c .before .before .before .before .before .synthesize .last .1 .1 .0) ≡ length (start .args .cascade .now)
+  long = c .before .before .before .before .before .synthesize .kept .1 .1 .0
 
   -- the records stand at the start of the cascade's room
   front : take (8 * c .before .m .given .0 .0) (c .before .before .before .before .before .synthesize .last .1 .1 .0) ≡ bytesOf gates
   unfolding laid
   front =
       ap (take (8 * c .before .m .given .0 .0))
-      (c .before .before .before .before .before .synthesize .ensures .1 ∙ made-room _ _ _ (start .pre .0) perm (start .args .cascade .now) (wide start))
+      (c .before .before .before .before .before .synthesize .ensures .1 ∙ made-room _ _ _ (start .pre .0) perm (start .args .cascade .now) (start .pre .1))
       ∙ take-at (bytesOf gates) _ _ (length-bytes gates ∙ ap (λ (m : ℕ). 8 * m) (sym count))
 
 synthesize-requires : tie.Need-synthesize-requires
@@ -63,7 +59,7 @@ refuse-requires : tie.Need-refuse-requires
 refuse-requires c κs =
     let d = c .before .before .before .before .before .before in
     let start = d .before .before .before .before .before .before in
-    made-refused _ _ _ (start .pre .0) _ (wide start) _ _ (ap countedAs (sym (c .before .before .number .given .1)) ∙ d .synthesize .ensures .0)
+    made-refused _ _ _ (start .pre .0) _ (start .pre .1) _ _ (ap countedAs (sym (c .before .before .number .given .1)) ∙ d .synthesize .ensures .0)
 
 enum-known-m : tie.Need-enum-known-m
 enum-known-m c = search needs
