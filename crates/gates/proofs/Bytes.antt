@@ -10,10 +10,10 @@ use native.Mathlib.Omega.{arith}
 use lib.Dec.{eqb, leb, ltb}
 use lib.ListN.{length, getD, take, drop}
 use lib.Seq.{getD-take, getD-drop}
-use lib.Bits.{bitAnd, bitOr, bitXor, and-le-r, or-lt}
+use lib.Bits.{bitAnd, bitOr, bitXor, and-le-r, or-lt, or-add-and}
 use borrow.Author.Tests.{eqb-true, eqb-false, leb-true, ltb-true, ltb-false, eq-eqb, ne-eqb, not-true, le-leb, lt-leb, lt-ltb, le-ltb}
 use Rattle.ranges.specs.Ranges.{every, sum}
-use Rattle.ranges.proofs.Bools.{and-left, and-right, and-both, decide, clash}
+use Rattle.ranges.proofs.Bools.{and-left, and-right, decide, clash}
 use Rattle.ranges.proofs.Tests.{every-below, every-of, every-ext}
 use Rattle.digits.specs.Digits.{digit, pack}
 use Rattle.digits.proofs.Digits.{digit-zero, digit-suc, digit-lt, digit-low, digit-up, low-div, low-mod}
@@ -23,7 +23,7 @@ use Rattle.gates.specs.Records.{lineOk, linesOkAt, packedAt, isRecord, g
 use Rattle.gates.specs.declared.Record.{Record}
 use Rattle.card.specs.Card.{linesOk}
 use Rattle.gates.proofs.Records.{line-lt}
-use Rattle.gates.specs.Words.{byte, Word, bytesIn, linesOkIn, isWord, gateOf, bare, headOf, asked, faultsIn, Low}
+use Rattle.gates.specs.Words.{byte, Word, bytesIn, linesOkIn, isWord, gateOf, bare, asked, faultsIn, Low}
 
 -- ---- what is computed
 
@@ -111,6 +111,25 @@ unfolding faultsIn
 fault-lt a w lt =
     or-lt 64 (bitAnd w 18229723555195320568) (bitAnd (bitXor w a) a) (lt-of-le-of-lt (and-le-r w 18229723555195320568) (omega arith))
     (lt-of-le-of-lt (and-le-r (bitXor w a) a) lt)
+
+-- an operator or a target of 8 or more has bits that no gate has
+or-more : (a b : ℕ) → a ≤ bitOr a b
+or-more a b = omega (arith, or-add-and a b, and-le-r a b)
+
+high-bits : (x : ℕ) → x < 256 → 8 ≤ x → 1 ≤ bitAnd x 248
+unfolding every
+high-bits x lt le =
+    let one = every-below (λ x. cond (leb 8 x) (leb 1 (bitAnd x 248)) true) 256 refl x lt in
+    leb-true 1 (bitAnd x 248) (rw (le-leb 8 x le) at one)
+
+fault-far : (a w k : ℕ) → k < 2 → 8 ≤ byte k w → eqb (faultsIn a w) 0 ≡ false
+fault-far a w k lt le =
+    let some = high-bits (byte k w) (digit-lt 256 k w (omega arith)) le in
+    let more = or-more (bitAnd (byte k w) 248) (bitAnd (bitXor (byte k w) (byte k a)) (byte k a)) in
+    ne-eqb (faultsIn a w) 0
+    (λ q.
+    let none : amiss 248 (byte k a) (byte k w) ≡ 0 = ap (λ (n : ℕ). amiss n (byte k a) (byte k w)) (sym (never-head k lt)) ∙ sym (fault-byte a w k) ∙ ap (λ (x : ℕ). byte k x) q ∙ digit-of-zero 256 k (omega arith) in
+    absurd (omega (arith, some, more, none)))
 
 -- where all bits are asked, some are missing or too many
 pub fault-all : (w : ℕ) → eqb (faultsIn 18446744073709551615 w) 0 ≡ false
@@ -286,44 +305,29 @@ module _ (b : List ℕ) (at w : ℕ) (read : Word b at w) where
 
 -- ---- its control bytes packed
 
--- three pairs, each below 16, side by side
-three-packed : (p q r : ℕ) → p < 16 → q < 16 → r < 16 → (p + 65536 * q + 4294967296 * r) * 16781313 / 16777216 % 4096 ≡ p + 16 * q + 256 * r
-three-packed p q r lp lq lr =
-    let product : (p + 65536 * q + 4294967296 * r) * 16781313 ≡ 4097 * p + 65536 * q + 16777216 * (p + 16 * q + 256 * r + 4096 * (16 * q + 1048832 * r)) = omega arith in
-    rw (product, low-div {r = 16777216} {d = 4097 * p + 65536 * q} (p + 16 * q + 256 * r + 4096 * (16 * q + 1048832 * r)) (omega arith))
-    (low-mod (16 * q + 1048832 * r) (omega arith))
+-- three control bytes above what is low, each beside the two above it
+triple-lt : (a b c : ℕ) → a < 4 → b < 4 → c < 4 → a + 4 * b + 16 * c < 64
+triple-lt a b c la lb lc = omega arith
 
--- a pair of control bytes
-pair-lt : (p q : ℕ) → p < 4 → q < 4 → p + 4 * q < 16
-pair-lt p q lp lq = omega arith
+below-up : (a b c d e : ℕ) → a < 4 → b < 4 → c < 4 → d < 4 → e < 4 → a + 260 * b + 66576 * c + 266240 * d + 1048576 * e < 16777216
+below-up a b c d e la lb lc ld le = omega arith
 
-pair-byte : (p q : ℕ) → p < 4 → q < 4 → p + 4 * q < 256
-pair-byte p q lp lq = omega arith
+triples : (a b c d e f : ℕ) → a + 4 * b + 16 * c + 64 * (d + 4 * e + 16 * f) ≡ a + 4 * b + 16 * c + 64 * d + 256 * e + 1024 * f
+triples a b c d e f = omega arith
 
-pairs-sum : (a b c d e f : ℕ) → a + 4 * b + 16 * (c + 4 * d) + 256 * (e + 4 * f) ≡ a + 4 * b + 16 * c + 64 * d + 256 * e + 1024 * f
-pairs-sum a b c d e f = omega arith
-
--- what stands above two bytes
-two-up : (p q r y : ℕ) → p < 256 → q < 256 → y ≡ p + 256 * (q + 256 * r) → y / 65536 ≡ r
-two-up p q r y lp lq e = omega arith
-
-four-up : (y : ℕ) → y / 65536 / 65536 ≡ y / 4294967296
-four-up y = omega arith
-
--- six control bytes, the first lowest: each beside the one above it
+-- the first lowest
 module _ (a b c d e f : ℕ) (la : a < 4) (lb : b < 4) (lc : c < 4) (ld : d < 4) (le : e < 4) (lf : f < 4) where
-  pub six-packed : (x y : ℕ) → x ≡ a + 256 * (b + 256 * (c + 256 * (d + 256 * (e + 256 * f)))) → y ≡ x + x / 64
-      → (y % 256 + 65536 * (y / 65536 % 256) + 4294967296 * (y / 4294967296 % 256)) * 16781313 / 16777216 % 4096
-      ≡ a + 4 * b + 16 * c + 64 * d + 256 * e + 1024 * f
-  six-packed x y ex ey =
-      let up : x / 64 ≡ 4 * (b + 256 * (c + 256 * (d + 256 * (e + 256 * f)))) = omega (arith, ex) in
-      let y0 : y ≡ a + 4 * b + 256 * (b + 4 * c + 256 * (c + 4 * d + 256 * (d + 4 * e + 256 * (e + 4 * f + 256 * f)))) = omega (arith, ex, ey, up) in
-      let y2 : y / 65536 ≡ c + 4 * d + 256 * (d + 4 * e + 256 * (e + 4 * f + 256 * f)) = two-up (a + 4 * b) (b + 4 * c) _ y (pair-byte a b la lb) (pair-byte b c lb lc) y0 in
-      let y4 : y / 65536 / 65536 ≡ e + 4 * f + 256 * f = two-up (c + 4 * d) (d + 4 * e) _ (y / 65536) (pair-byte c d lc ld) (pair-byte d e ld le) y2 in
-      let p0 : y % 256 ≡ a + 4 * b = ap (λ (z : ℕ). z % 256) y0 ∙ low-mod (b + 4 * c + 256 * (c + 4 * d + 256 * (d + 4 * e + 256 * (e + 4 * f + 256 * f)))) (pair-byte a b la lb) in
-      let p1 : y / 65536 % 256 ≡ c + 4 * d = ap (λ (z : ℕ). z % 256) y2 ∙ low-mod (d + 4 * e + 256 * (e + 4 * f + 256 * f)) (pair-byte c d lc ld) in
-      let p2 : y / 4294967296 % 256 ≡ e + 4 * f = ap (λ (z : ℕ). z % 256) (sym (four-up y) ∙ y4) ∙ low-mod f (pair-byte e f le lf) in
-      rw (p0, p1, p2) (three-packed (a + 4 * b) (c + 4 * d) (e + 4 * f) (pair-lt a b la lb) (pair-lt c d lc ld) (pair-lt e f le lf) ∙ pairs-sum a b c d e f)
+  six-packed : (x s : ℕ) → x ≡ a + 256 * (b + 256 * (c + 256 * (d + 256 * (e + 256 * f)))) → s ≡ x + x / 64 + x / 4096
+      → s % 64 + 64 * (s / 16777216 % 64) ≡ a + 4 * b + 16 * c + 64 * d + 256 * e + 1024 * f
+  six-packed x s ex es =
+      let u : x / 64 ≡ 4 * (b + 256 * (c + 256 * (d + 256 * (e + 256 * f)))) = omega (arith, ex) in
+      let v : x / 4096 ≡ 16 * (c + 256 * (d + 256 * (e + 256 * f))) = omega (arith, ex) in
+      let low : s ≡ a + 4 * b + 16 * c + 64 * (4 * b + 1040 * c + 266304 * d + 68173824 * e + 17452498944 * f) = omega (arith, ex, es, u, v) in
+      let high : s ≡ a + 260 * b + 66576 * c + 266240 * d + 1048576 * e + 16777216 * (d + 4 * e + 16 * f + 64 * (4 * e + 1040 * f)) = omega (arith, low) in
+      let first : s % 64 ≡ a + 4 * b + 16 * c = ap (λ (z : ℕ). z % 64) low ∙ low-mod (4 * b + 1040 * c + 266304 * d + 68173824 * e + 17452498944 * f) (triple-lt a b c la lb lc) in
+      let up : s / 16777216 ≡ d + 4 * e + 16 * f + 64 * (4 * e + 1040 * f) = ap (λ (z : ℕ). z / 16777216) high ∙ low-div (d + 4 * e + 16 * f + 64 * (4 * e + 1040 * f)) (below-up a b c d e la lb lc ld le) in
+      let second : s / 16777216 % 64 ≡ d + 4 * e + 16 * f = ap (λ (z : ℕ). z % 64) up ∙ low-mod (4 * e + 1040 * f) (triple-lt d e f ld le lf) in
+      rw (first, second) (triples a b c d e f)
 
 -- the six control bytes make up all above the first two bytes
 six-up : (w : ℕ) → w < 256 ^ 8 → w / 65536 ≡ byte 2 w + 256 * (byte 3 w + 256 * (byte 4 w + 256 * (byte 5 w + 256 * (byte 6 w + 256 * byte 7 w))))
@@ -335,64 +339,61 @@ six-up w lt =
 
 module _ (w : ℕ) (low : Low w) where
   pub packed-bytes : w < 256 ^ 8
-      → ((w / 65536 + w / 65536 / 64) % 256 + 65536 * ((w / 65536 + w / 65536 / 64) / 65536 % 256) + 4294967296 * ((w / 65536 + w / 65536 / 64) / 4294967296 % 256)) * 16781313
-      / 16777216
-      % 4096
-      ≡ pack 4 (λ k. byte (2 + k) w) 6
+      → (w / 65536 + w / 65536 / 64 + w / 65536 / 4096) % 64 + 64 * ((w / 65536 + w / 65536 / 64 + w / 65536 / 4096) / 16777216 % 64) ≡ pack 4 (λ k. byte (2 + k) w) 6
   unfolding pack sum
   packed-bytes lt =
       six-packed (byte 2 w) (byte 3 w) (byte 4 w) (byte 5 w) (byte 6 w) (byte 7 w) (low .each 0 (omega arith)) (low .each 1 (omega arith)) (low .each 2 (omega arith))
-      (low .each 3 (omega arith)) (low .each 4 (omega arith)) (low .each 5 (omega arith)) (w / 65536) (w / 65536 + w / 65536 / 64) (six-up w lt) refl
+      (low .each 3 (omega arith)) (low .each 4 (omega arith)) (low .each 5 (omega arith)) (w / 65536) (w / 65536 + w / 65536 / 64 + w / 65536 / 4096) (six-up w lt) refl
       ∙ omega arith
 
 -- ---- which gate a word is, or none
 
+head-sum : (w o t : ℕ) → w % 256 ≡ o → w / 256 % 256 ≡ t → o < 8 → t < 8 → (w % 65536 + w % 65536 / 32) % 64 ≡ o + 8 * t
+head-sum w o t eo et lo lt =
+    let low : w % 65536 ≡ o + 256 * t = omega arith in
+    let moved : (o + 256 * t) / 32 ≡ 8 * t = omega arith in
+    let all : o + 256 * t + 8 * t ≡ o + 8 * t + 64 * (4 * t) = omega arith in
+    rw (low, moved, all) (low-mod (4 * t) (omega arith))
+
+pub head-is : (w : ℕ) → byte 0 w < 8 → byte 1 w < 8 → (w % 65536 + w % 65536 / 32) % 64 ≡ byte 0 w + 8 * byte 1 w
+head-is w lo lt = head-sum w (byte 0 w) (byte 1 w) (sym (digit-zero 256 w)) (sym (byte-one w)) lo lt
+
 module _ (n w : ℕ) where
-  -- an operator or a target of 8 or more is none
-  far-head : n ≤ 6 → (ltb (byte 0 w) 8 && ltb (byte 1 w) 8) ≡ false → isWord n w ≡ false
+  far-operator : 8 ≤ byte 0 w → isWord n w ≡ false
   unfolding isWord
-  far-head six e = go (decide (ltb (byte 0 w) 8)) (decide (ltb (byte 1 w) 8))
+  far-operator le = rw (lt-leb (byte 0 w) 5 (omega (arith, le)), and-false (leb 1 (byte 0 w)))
+
+  far-target : n ≤ 6 → 8 ≤ byte 1 w → isWord n w ≡ false
+  unfolding isWord
+  far-target six le = rw (le-ltb (byte 1 w) n (omega (arith, le)), and-false (leb 1 (byte 0 w) && leb (byte 0 w) 5))
+
+  -- a gate on n lines may have this operator and this target
+  abbrev valid : Bool
+  valid = (leb 1 (byte 0 w) && leb (byte 0 w) 5) && ltb (byte 1 w) n
+
+  near-faults : n ≤ 6 → byte 0 w < 8 → byte 1 w < 8 → (valid ≡ true) ⊎ (valid ≡ false) → eqb (faultsIn (cond valid (bare n (byte 1 w)) 18446744073709551615) w) 0 ≡ isWord n w
+  unfolding isWord
+  near-faults six o t (_⊎_.inl v) =
+      rw v
+      (fault-bare n (byte 1 w) six (ltb-true (byte 1 w) n (and-right (leb 1 (byte 0 w) && leb (byte 0 w) 5) (ltb (byte 1 w) n) v)) w
+      ∙ rw (lt-ltb (byte 0 w) 8 o, lt-ltb (byte 1 w) 8 t))
+  near-faults six o t (_⊎_.inr v) = rw v (fault-all w)
+
+  -- what is asked by operator and target decides
+  pub word-faults : (h : ℕ) → n ≤ 6 → (byte 0 w < 8 → byte 1 w < 8 → h ≡ byte 0 w + 8 * byte 1 w) → eqb (faultsIn (asked n h) w) 0 ≡ isWord n w
+  unfolding asked
+  word-faults h six head = go (decide (ltb (byte 0 w) 8)) (decide (ltb (byte 1 w) 8))
     where
       go : (ltb (byte 0 w) 8 ≡ true) ⊎ (ltb (byte 0 w) 8 ≡ false) → (ltb (byte 1 w) 8 ≡ true) ⊎ (ltb (byte 1 w) 8 ≡ false)
-          → (((leb 1 (byte 0 w) && leb (byte 0 w) 5) && ltb (byte 1 w) n) && linesOkIn n (byte 1 w) w) ≡ false
-      go (_⊎_.inr o) t = rw (lt-leb (byte 0 w) 5 (omega (arith, ltb-false (byte 0 w) 8 o)), and-false (leb 1 (byte 0 w)))
-      go (_⊎_.inl o) (_⊎_.inr t) =
-          rw (le-ltb (byte 1 w) n (omega (arith, ltb-false (byte 1 w) 8 t)), and-false (leb 1 (byte 0 w) && leb (byte 0 w) 5))
-      go (_⊎_.inl o) (_⊎_.inl t) = clash (ltb (byte 0 w) 8 && ltb (byte 1 w) 8) (and-both (ltb (byte 0 w) 8) (ltb (byte 1 w) 8) o t) e
-
-  -- a gate on n lines has the head
-  abbrev valid : Bool
-  valid = (leb 1 (headOf w % 8) && leb (headOf w % 8) 5) && ltb (headOf w / 8) n
-
-  asked-valid : n ≤ 6 → valid ≡ true → eqb (faultsIn (asked n (headOf w)) w) 0 ≡ (ltb (byte 0 w) 8 && ltb (byte 1 w) 8 && linesOkIn n (headOf w / 8) w)
-  unfolding asked
-  asked-valid six v =
-      let on = ltb-true (headOf w / 8) n (and-right (leb 1 (headOf w % 8) && leb (headOf w % 8) 5) (ltb (headOf w / 8) n) v) in
-      rw v (fault-bare n (headOf w / 8) six on w)
-
-  asked-none : valid ≡ false → eqb (faultsIn (asked n (headOf w)) w) 0 ≡ false
-  unfolding asked
-  asked-none v = rw v (fault-all w)
-
-  near-head : (ltb (byte 0 w) 8 && ltb (byte 1 w) 8) ≡ true → isWord n w ≡ (valid && linesOkIn n (headOf w / 8) w)
-  unfolding isWord headOf
-  near-head e =
-      let o = ltb-true (byte 0 w) 8 (and-left (ltb (byte 0 w) 8) (ltb (byte 1 w) 8) e) in
-      let t = ltb-true (byte 1 w) 8 (and-right (ltb (byte 0 w) 8) (ltb (byte 1 w) 8) e) in
-      let oe : byte 0 w ≡ (w % 8 + 8 * (w / 256 % 8)) % 8 = digit-zero 256 w ∙ omega (arith, rw digit-zero at o) in
-      let te : byte 1 w ≡ (w % 8 + 8 * (w / 256 % 8)) / 8 = byte-one w ∙ omega (arith, rw byte-one at t) in
-      rw (oe, te)
-
-  -- what is asked by its head decides
-  pub word-faults : n ≤ 6 → eqb (faultsIn (asked n (headOf w)) w) 0 ≡ isWord n w
-  word-faults six = go (decide (ltb (byte 0 w) 8 && ltb (byte 1 w) 8)) (decide valid)
-    where
-      go : ((ltb (byte 0 w) 8 && ltb (byte 1 w) 8) ≡ true) ⊎ ((ltb (byte 0 w) 8 && ltb (byte 1 w) 8) ≡ false) → (valid ≡ true) ⊎ (valid ≡ false)
-          → eqb (faultsIn (asked n (headOf w)) w) 0 ≡ isWord n w
-      go (_⊎_.inl e) (_⊎_.inl v) = asked-valid six v ∙ ap (λ (b : Bool). b && linesOkIn n (headOf w / 8) w) (e ∙ sym v) ∙ sym (near-head e)
-      go (_⊎_.inl e) (_⊎_.inr v) = asked-none v ∙ ap (λ (b : Bool). b && linesOkIn n (headOf w / 8) w) (sym v) ∙ sym (near-head e)
-      go (_⊎_.inr e) (_⊎_.inl v) = asked-valid six v ∙ ap (λ (b : Bool). b && linesOkIn n (headOf w / 8) w) e ∙ sym (far-head six e)
-      go (_⊎_.inr e) (_⊎_.inr v) = asked-none v ∙ sym (far-head six e)
+          → eqb (faultsIn (cond ((leb 1 (h % 8) && leb (h % 8) 5) && ltb (h / 8) n) (bare n (h / 8)) 18446744073709551615) w) 0 ≡ isWord n w
+      go (_⊎_.inr p) q = (let le : 8 ≤ byte 0 w = omega (arith, ltb-false (byte 0 w) 8 p) in fault-far _ w 0 (omega arith) le ∙ sym (far-operator le))
+      go (_⊎_.inl p) (_⊎_.inr q) = (let le : 8 ≤ byte 1 w = omega (arith, ltb-false (byte 1 w) 8 q) in fault-far _ w 1 (omega arith) le ∙ sym (far-target six le))
+      go (_⊎_.inl p) (_⊎_.inl q) =
+          let o = ltb-true (byte 0 w) 8 p in
+          let t = ltb-true (byte 1 w) 8 q in
+          let operator : h % 8 ≡ byte 0 w = ap (λ (x : ℕ). x % 8) (head o t) ∙ low-mod (byte 1 w) o in
+          let target : h / 8 ≡ byte 1 w = ap (λ (x : ℕ). x / 8) (head o t) ∙ low-div (byte 1 w) o in
+          rw (operator, target) (near-faults six o t (decide valid))
 
   -- a gate's control bytes are below 4
   pub word-low : isWord n w ≡ true → Low w

@@ -40,11 +40,7 @@ gateOf w = record { operator = byte 0 w; target = byte 1 w; controls = pack 4 (�
 unfoldable pub bare : ℕ → ℕ → ℕ
 bare n t = 65536 * (3311470314243 / 256 ^ n * 256 ^ n + 3 * 256 ^ t)
 
--- its operator and target, of each three bits, as one number
-unfoldable pub headOf : ℕ → ℕ
-headOf w = w % 8 + 8 * (w / 256 % 8)
-
--- the bits that are asked of a record with this head: those of `bare`, or all where no gate on n lines has the head
+-- the bits that are asked of a record by its operator and 8 times its target: those of `bare`, or all where no gate on n lines has these
 unfoldable pub asked : ℕ → ℕ → ℕ
 asked n h = cond ((leb 1 (h % 8) && leb (h % 8) 5) && ltb (h / 8) n) (bare n (h / 8)) 18446744073709551615
 

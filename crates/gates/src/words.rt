@@ -9,7 +9,7 @@ ghost use Rattle.ranges.specs.Ranges.{span};
 ghost use Rattle.digits.specs.Digits.{put, pack};
 ghost use Rattle.gates.specs.Gates.{act, inverseOp};
 ghost use Rattle.gates.specs.Records.{recordOf};
-ghost use Rattle.gates.specs.Words.{byte, Word, bytesIn, bare, asked, headOf, faultsIn, isWord, gateOf, Low, Held, controlMarks, otherMarks, Spread, firesIn, movedBy};
+ghost use Rattle.gates.specs.Words.{byte, Word, bytesIn, bare, asked, faultsIn, isWord, gateOf, Low, Held, controlMarks, otherMarks, Spread, firesIn, movedBy};
 use super::Gate;
 
 fn wide(x: u8) -> u64
@@ -102,11 +102,12 @@ pub fn write_asked(lines: u8, row: &mut [u64])
     }
 }
 
-// The operator and 8 times the target, of each three bits.
+// The operator and 8 times the target, where both are below 8.
 fn head_of(w: u64) -> u64
-    ensures { λ r. ⌜ (r ≡ headOf w) × (r < 64) ⌝ }
+    ensures { λ r. ⌜ (r < 64) × (byte 0 w < 8 → byte 1 w < 8 → r ≡ byte 0 w + 8 * byte 1 w) ⌝ }
 {
-    w % 8 + 8 * (w / 256 % 8)
+    let low = w % 65536;
+    (low + low / 32) % 64
 }
 
 // The bits that no gate has, and those that are asked and missing.
@@ -132,17 +133,14 @@ pub fn faults_by(lines: u8, row: &[u64], w: u64) -> u64
     faults(row[head_of(w) as usize], w)
 }
 
-// The control bytes, packed in base 4: each is put beside the one above it, then the three pairs side by side.
+// The control bytes, packed in base 4: each is put beside the two above it.
 fn packed_controls(w: u64) -> u64
     requires { ⌜ Low w ⌝ }
     ensures { λ r. ⌜ (r ≡ pack 4 (λ k. byte (2 + k) w) 6) × (r < 4096) ⌝ }
 {
     let c = w / 65536;
-    let beside = c + c / 64;
-    let pairs = beside % 256
-        + 65536 * (beside / 65536 % 256)
-        + 4294967296 * (beside / 4294967296 % 256);
-    pairs * 0x01001001 / 16777216 % 4096
+    let beside = c + c / 64 + c / 4096;
+    beside % 64 + 64 * (beside / 16777216 % 64)
 }
 
 // The gate that the word writes down.

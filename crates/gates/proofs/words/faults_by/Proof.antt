@@ -15,13 +15,13 @@ mul-faults : tie.Need-mul-faults
 mul-faults c = search needs
 
 shared-slice-read-faults : tie.Need-shared-slice-read-faults
-shared-slice-read-faults c = rw (c .before .before .before .pre .1, length-span) (c .before .head-of .ensures .1)
+shared-slice-read-faults c = rw (c .before .before .before .pre .1, length-span) (c .before .head-of .ensures .0)
 
 faults-requires : tie.Need-faults-requires
 faults-requires c κs = search needs
 
 returns : tie.Need-returns
-returns c = rw (c .faults .ensures, c .before .before .before .before .pre .1, span-at {A = ℕ} (asked (c .before .before .before .before .args .lines)) 0 64 (c .before .before .head-of .result) 0 (c .before .before .head-of .ensures .1), zero-add, c .before .before .head-of .ensures .0) (word-faults _ _ (c .before .before .before .before .pre .0))
+returns c = rw (c .faults .ensures, c .before .before .before .before .pre .1, span-at {A = ℕ} (asked (c .before .before .before .before .args .lines)) 0 64 (c .before .before .head-of .result) 0 (c .before .before .head-of .ensures .0), zero-add) (word-faults _ _ _ (c .before .before .before .before .pre .0) (c .before .before .head-of .ensures .1))
 
 pub faults-by-spec : {M : Type 1} → statement M
 faults-by-spec =

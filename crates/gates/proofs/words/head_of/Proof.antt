@@ -1,20 +1,15 @@
--- `gates::words::head_of` meets its contract: its sum is the definition's. Assumes nothing.
-use mathlib.Core.Path.{refl}
+-- `gates::words::head_of` meets its contract: where both are below 8, three bits come to stand beside three. Assumes nothing.
 use native.Mathlib.Omega.{arith}
-use Rattle.gates.specs.Words.{headOf}
+use Rattle.gates.proofs.Bytes.{head-is}
 use borrow.Author.Needs.{needs}
 use Rattle.gates.proofs.words.head_of.Statement.{statement}
 use Rattle.gates.proofs.words.head_of.Tie as tie
-
-mul-result : tie.Need-mul-result
-mul-result c = search needs
 
 add-result : tie.Need-add-result
 add-result c = search needs
 
 returns : tie.Need-returns
-unfolding headOf
-returns c = (refl, omega arith)
+returns c = (omega arith, head-is _)
 
 pub head-of-spec : {M : Type 1} → statement M
-head-of-spec = tie.close (tie.spec mul-result add-result returns)
+head-of-spec = tie.close (tie.spec add-result returns)

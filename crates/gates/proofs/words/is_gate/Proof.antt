@@ -14,7 +14,7 @@ faults-requires : tie.Need-faults-requires
 faults-requires c κs = search needs
 
 returns : tie.Need-returns
-returns c = rw (c .faults .ensures, c .before .ask .ensures, c .before .before .head-of .ensures .0) (word-faults _ _ (c .before .before .before .pre))
+returns c = rw (c .faults .ensures, c .before .ask .ensures) (word-faults _ _ _ (c .before .before .before .pre) (c .before .before .head-of .ensures .1))
 
 pub is-gate-spec : {M : Type 1} → statement M
 is-gate-spec = tie.close (tie.spec head-of-requires ask-requires faults-requires returns)

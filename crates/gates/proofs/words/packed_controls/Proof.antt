@@ -1,4 +1,4 @@
--- `gates::words::packed_controls` meets its contract: pairs of control bytes, side by side. Assumes nothing.
+-- `gates::words::packed_controls` meets its contract: three control bytes side by side, and the other three. Assumes nothing.
 use native.Mathlib.Omega.{arith}
 use Rattle.gates.proofs.Bytes.{packed-bytes}
 use borrow.Author.Needs.{needs}
@@ -8,24 +8,17 @@ use Rattle.gates.proofs.words.packed_controls.Tie as tie
 add-beside : tie.Need-add-beside
 add-beside c = search needs
 
-mul-pairs : tie.Need-mul-pairs
-mul-pairs c = search needs
-
-add-pairs : tie.Need-add-pairs
-add-pairs c = search needs
-
-mul-pairs-2 : tie.Need-mul-pairs-2
-mul-pairs-2 c = search needs
-
-add-pairs-2 : tie.Need-add-pairs-2
-add-pairs-2 c = search needs
+add-beside-2 : tie.Need-add-beside-2
+add-beside-2 c = search needs
 
 mul-result : tie.Need-mul-result
 mul-result c = search needs
+
+add-result : tie.Need-add-result
+add-result c = search needs
 
 returns : tie.Need-returns
 returns c = (packed-bytes _ (c .pre) (search needs), omega arith)
 
 pub packed-controls-spec : {M : Type 1} → statement M
-packed-controls-spec =
-    tie.close (tie.spec add-beside mul-pairs add-pairs mul-pairs-2 add-pairs-2 mul-result returns)
+packed-controls-spec = tie.close (tie.spec add-beside add-beside-2 mul-result add-result returns)
