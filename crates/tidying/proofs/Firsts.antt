@@ -55,26 +55,6 @@ gap-unfit g ok = rw (not-six (g .target) (ok .on-line)) refl
 
 -- ---- rows
 
--- row r passes gate c and the gaps behind it, of which the numbers tell
-pub clear-run : (gs : List Gate) (far : List ℕ) (r c q : ℕ) → Each Stands gs → Known gs far → Clear gs r c → isGap (gate gs r) ≡ false → c < length gs
-    → fits (gate gs r) (gate gs c) ≡ false → mayChange (gate gs r) (gate gs c) ≡ true
-    → c + q ≤ length gs → ((k : ℕ) → 0 < k → k < q → getD far (c + k) 0 % 16384 ≡ 0) → Clear gs r (c + q)
-clear-run gs far r c q ok known w real lt unfit may le run =
-    record {
-      order = omega (arith, w .order);
-      inside = le;
-      quiet = λ l a b. by-place (Quiet (gate gs r) (gate gs l)) (c + 1) l (λ d. clear-next gs r c w lt unfit may .quiet l a d) (λ d. over l d b);
-    }
-  where
-    none : (l : ℕ) → c + 1 ≤ l → l < c + q → getD far l 0 % 16384 ≡ 0
-    none l d b = let e : c + (l - c) ≡ l = omega arith in rw e at (run (l - c) (omega arith) (omega arith))
-
-    over : (l : ℕ) → c + 1 ≤ l → l < c + q → Quiet (gate gs r) (gate gs l)
-    over l d b =
-        let is : gate gs l ≡ gap = each-at Stands gs (record { operator = 0; target = 0; controls = 0 }) ok l (omega arith) .blank (row-gap gs l _ (known .rows l (omega arith)) (none l d b)) in
-        let ok-r : IsGate 6 (gate gs r) = each-at Stands gs (record { operator = 0; target = 0; controls = 0 }) ok r (omega (arith, w .order)) .real real in
-        rw is (record { unfit = gap-unfit (gate gs r) ok-r; pass = gap-passed (gate gs r) ok-r })
-
 -- i, j is the first pair; i is the length where there is none
 pub record First (gs : List Gate) (i j : ℕ) : Type 0 where
   pub row : i ≡ firstI gs

@@ -9,3 +9,4 @@ pub mod Buffers
 pub mod Rows
 pub mod Firsts
 pub mod Repetitions
+pub mod Stretches

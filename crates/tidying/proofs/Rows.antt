@@ -1,10 +1,10 @@
--- What the search remembers of each row stays true: where a row is found clear further on, and where a gate is replaced, sixteen rows at a time; and what
+-- What the search remembers of each row stays true: where a row is found clear further on, and where a gate is replaced, a stretch at a time; and what
 -- a row that is clear up to j says of the first pair. Assumes nothing.
 use mathlib.Core.Path.{_≡_, refl, sym, _∙_, subst}
 use mathlib.Core.Logic.{⊎-elim}
 use mathlib.Core.Bool.{Bool, true, false, cond, _&&_}
 use mathlib.Core.List.{List, _++_}
-use Prim.Native.Nat.{ℕ, _+_, _-_, _%_, _<_, _≤_}
+use Prim.Native.Nat.{ℕ, _+_, _-_, _*_, _/_, _%_, _<_, _≤_}
 use native.Mathlib.Decide.{ℕ-discrete}
 use native.Mathlib.Omega.{arith}
 use lib.Dec.{ltb}
@@ -25,7 +25,7 @@ use Rattle.tidying.specs.Places.{mayChange}
 use Rattle.tidying.specs.Rules.{fits}
 use Rattle.tidying.specs.Tidying.{gate, isOpen, fitting, firstJ}
 use Rattle.tidying.specs.Buffers.{isGap}
-use Rattle.tidying.specs.Rows.{Quiet, Clear, Stops, Row, Known, Low, Again}
+use Rattle.tidying.specs.Rows.{Quiet, Clear, Stops, Row, Known, Low, Reached, Again}
 use Rattle.tidying.proofs.Gaps.{by-place}
 
 -- ---- one row
@@ -134,45 +134,56 @@ row-own gs p g lt small =
 -- ---- rows looked at again
 
 pub again-start : (gs : List Gate) (p : ℕ) (g : Gate) (s : List ℕ) (x : ℕ) → Again gs p g s s x x
-again-start gs p g s x = record { len = refl; inside = λ r a b. absurd (omega arith); below = λ r l. refl; above = λ r l. refl }
+again-start gs p g s x = record { len = refl; inside = λ r a b l. absurd (omega arith); below = λ r l. refl; above = λ r l. refl; behind = λ r l. refl }
 
-pub again-next : (gs : List Gate) (p : ℕ) (g : Gate) (s t : List ℕ) (x e n : ℕ) → x ≤ e → e < length s → Again gs p g s t x e → Row (set gs p g) e n
+pub again-next : (gs : List Gate) (p : ℕ) (g : Gate) (s t : List ℕ) (x e n : ℕ) → x ≤ e → e < p → e < length s → Again gs p g s t x e → Row (set gs p g) e n
     → Again gs p g s (set t e n) x (e + 1)
-again-next gs p g s t x e n le lt w k =
+again-next gs p g s t x e n le lp lt w k =
     record {
       len = length-set t e n ∙ w .len;
-      inside = λ r a b. at-set (Row (set gs p g)) t e n 0 (omega (arith, w .len)) k r (λ ne. w .inside r a (omega arith));
+      inside = λ r a b l. at-set (Row (set gs p g)) t e n 0 (omega (arith, w .len)) k r (λ ne. w .inside r a (omega arith) l);
       below = λ r l. getD-set-other t e r n 0 (omega arith) ∙ w .below r l;
       above = λ r l. getD-set-other t e r n 0 (omega arith) ∙ w .above r (omega arith);
+      behind = λ r l. getD-set-other t e r n 0 (omega arith) ∙ w .behind r l;
+    }
+
+-- up to a place further on, where the rows between stand behind gate p
+pub again-wide : (gs : List Gate) (p : ℕ) (g : Gate) (s t : List ℕ) (x e f : ℕ) → e ≤ f → (e < p → f ≤ e) → Again gs p g s t x e → Again gs p g s t x f
+again-wide gs p g s t x e f le near w =
+    record {
+      len = w .len;
+      inside = λ r a b l. by-place (Row (set gs p g) r (getD t r 0)) e r (λ c. w .inside r a c l) (λ c. absurd (omega (arith, near (omega arith))));
+      below = w .below;
+      above = λ r l. w .above r (omega arith);
+      behind = w .behind;
     }
 
 pub again-more : (gs : List Gate) (p : ℕ) (g : Gate) (s t u : List ℕ) (x e f : ℕ) → x ≤ e → e ≤ f → Again gs p g s t x e → Again gs p g t u e f → Again gs p g s u x f
 again-more gs p g s t u x e f lx le w v =
     record {
       len = v .len ∙ w .len;
-      inside = λ r a b.
-          by-place (Row (set gs p g) r (getD u r 0)) e r (λ l. subst (Row (set gs p g) r) (sym (v .below r l)) (w .inside r a l)) (λ l. v .inside r l b);
+      inside = λ r a b l.
+          by-place (Row (set gs p g) r (getD u r 0)) e r (λ c. subst (Row (set gs p g) r) (sym (v .below r c)) (w .inside r a c l)) (λ c. v .inside r c b l);
       below = λ r l. v .below r (omega arith) ∙ w .below r l;
       above = λ r l. v .above r l ∙ w .above r (omega arith);
+      behind = λ r l. v .behind r l ∙ w .behind r l;
     }
 
--- no row of a stride reaches gate p
-pub again-none : (gs : List Gate) (p : ℕ) (g : Gate) (s : List ℕ) (x e f : ℕ) → p < length gs → e ≤ p → p < 16384 → e ≤ x + 16 → f < p
-    → ((k : ℕ) → k < 16 → getD s (x + k) 0 % 16384 ≤ f) → ((r : ℕ) → x ≤ r → r < e → Row gs r (getD s r 0)) → Again gs p g s s x e
-again-none gs p g s x e f lp le small near lf most rows =
+-- no row from x to e reaches gate p
+pub again-none : (gs : List Gate) (p : ℕ) (g : Gate) (s : List ℕ) (x e : ℕ) → p < length gs → p < 16384
+    → ((r : ℕ) → x ≤ r → r < e → r < p → getD s r 0 % 16384 < p) → ((r : ℕ) → x ≤ r → r < p → Row gs r (getD s r 0)) → Again gs p g s s x e
+again-none gs p g s x e lp small near rows =
     record {
       len = refl;
-      inside = λ r a b. again-near gs p g r (getD s r 0) lp (λ q. omega arith) (rows r a b) (omega arith) small (omega (arith, reach r a b));
+      inside = λ r a b l. again-near gs p g r (getD s r 0) lp (λ q. omega arith) (rows r a l) l small (near r a b l);
       below = λ r l. refl;
       above = λ r l. refl;
+      behind = λ r l. refl;
     }
-  where
-    reach : (r : ℕ) → x ≤ r → r < e → getD s r 0 % 16384 ≤ f
-    reach r a b = let q : x + (r - x) ≡ r = omega arith in rw q at (most (r - x) (omega arith))
 
-pub again-end : (gs : List Gate) (p : ℕ) (g : Gate) (s t : List ℕ) (x n : ℕ) → Known gs s → p < length gs → p < 8000 → p ≤ x → x ≤ p → Again gs p g s t 0 x
+pub again-end : (gs : List Gate) (p : ℕ) (g : Gate) (s t : List ℕ) (x n : ℕ) → Known gs s → p < length gs → p < 8000 → p ≤ x → Again gs p g s t 0 x
     → n ≡ cond (isGap g) 16384 (p + 1) → Known (set gs p g) (set t p n)
-again-end gs p g s t x n k lp small le ge w own =
+again-end gs p g s t x n k lp small le w own =
     record {
       room = rw (length-set gs p g, length-set t p n, w .len) (k .room);
       rows = λ r l.
@@ -182,8 +193,75 @@ again-end gs p g s t x n k lp small le ge w own =
   where
     row : (r : ℕ) → (r ≡ p → ⊥) → r < length gs → Row (set gs p g) r (getD t r 0)
     row r ne l =
-        by-place (Row (set gs p g) r (getD t r 0)) p r (λ b. w .inside r (omega arith) (omega arith))
-        (λ b. subst (Row (set gs p g) r) (sym (w .above r (omega arith))) (row-behind gs p g r (getD s r 0) lp (omega arith) (k .rows r l)))
+        by-place (Row (set gs p g) r (getD t r 0)) p r (λ b. w .inside r (omega arith) (omega arith) b)
+        (λ b. subst (Row (set gs p g) r) (sym (w .behind r b)) (row-behind gs p g r (getD s r 0) lp (omega arith) (k .rows r l)))
+
+-- ---- how far the rows of a stretch reach
+
+-- a stretch, and sixteen of them, that do not reach gate p
+pub reach-one : (far reach : List ℕ) (m p s r : ℕ) → Reached far reach m → p < m → getD reach s 0 % 16384 < p → 16 * s ≤ r → r < 16 * s + 16 → r < p → getD far r 0 % 16384 < p
+reach-one far reach m p s r w lp near a b l =
+    let e : r / 16 ≡ s = omega arith in
+    let bound : getD far r 0 % 16384 ≤ getD reach s 0 % 16384 = rw e at (w .bound r (omega arith)) in
+    omega arith
+
+pub reach-many : (far reach : List ℕ) (m p x e most r : ℕ) → Reached far reach m → p < m → ((k : ℕ) → k < 16 → getD reach (x + k) 0 % 16384 ≤ most) → most < p → e ≤ x + 16
+    → 16 * x ≤ r → r < 16 * e → r < p → getD far r 0 % 16384 < p
+reach-many far reach m p x e most r w lp all lt le a b l =
+    let at : x + (r / 16 - x) ≡ r / 16 = omega arith in
+    let here : getD reach (r / 16) 0 % 16384 ≤ most = rw at at (all (r / 16 - x) (omega arith)) in
+    omega (arith, w .bound r (omega arith))
+
+-- stretch s is measured again, the rows of the others being as they were
+pub reach-again : (far t reach : List ℕ) (m s most : ℕ) → Reached far reach m → 16 * s < m → ((r : ℕ) → r < 16 * s → getD t r 0 ≡ getD far r 0)
+    → ((r : ℕ) → 16 * s + 16 ≤ r → getD t r 0 ≡ getD far r 0) → ((k : ℕ) → k < 16 → getD t (16 * s + k) 0 % 16384 ≤ most) → most < 16384 → Reached t (set reach s most) m
+reach-again far t reach m s most w inside below above all small =
+    record { room = rw (length-set reach s most) (w .room); bound = bound }
+  where
+    near : (r : ℕ) → r / 16 ≡ s → getD t r 0 % 16384 ≤ most
+    near r e = let at : 16 * s + (r - 16 * s) ≡ r = omega arith in rw at at (all (r - 16 * s) (omega arith))
+
+    away : (r : ℕ) → r < m → (r / 16 ≡ s → ⊥) → getD t r 0 % 16384 ≤ getD reach (r / 16) 0 % 16384
+    away r l ne =
+        let same : getD t r 0 ≡ getD far r 0 = by-place (getD t r 0 ≡ getD far r 0) (16 * s) r (below r) (λ c. above r (omega arith)) in
+        rw same (w .bound r l)
+
+    bound : (r : ℕ) → r < m → getD t r 0 % 16384 ≤ getD (set reach s most) (r / 16) 0 % 16384
+    bound r l = go (ℕ-discrete (r / 16) s)
+      where
+        go : Dec (r / 16 ≡ s) → getD t r 0 % 16384 ≤ getD (set reach s most) (r / 16) 0 % 16384
+        go (yes e) = rw (e, getD-set-same reach s most 0 (omega (arith, w .room))) (omega (arith, near r e))
+        go (no ne) = rw (getD-set-other reach s (r / 16) most 0 ne) (away r l ne)
+
+-- row r alone has changed: its stretch reaches that far, or now does
+module _ (far reach : List ℕ) (m r n : ℕ) (room : m + 256 ≤ 16 * length reach) (lt : r < m) (near : getD far r 0 % 16384 ≤ n)
+    (others : (q : ℕ) → q < m → (q ≡ r → ⊥) → getD far q 0 % 16384 ≤ getD reach (q / 16) 0 % 16384) where
+  pub raise-none : n ≤ getD reach (r / 16) 0 % 16384 → Reached far reach m
+  raise-none le = record { room = room; bound = λ q l. go q l (ℕ-discrete q r) }
+    where
+      go : (q : ℕ) → q < m → Dec (q ≡ r) → getD far q 0 % 16384 ≤ getD reach (q / 16) 0 % 16384
+      go q l (yes e) = rw e (omega arith)
+      go q l (no ne) = others q l ne
+
+  pub raise-some : n < 16384 → getD reach (r / 16) 0 % 16384 < n → Reached far (set reach (r / 16) n) m
+  raise-some small lower = record { room = rw (length-set reach (r / 16) n) room; bound = λ q l. go q l (ℕ-discrete q r) (ℕ-discrete (q / 16) (r / 16)) }
+    where
+      go : (q : ℕ) → q < m → Dec (q ≡ r) → Dec (q / 16 ≡ r / 16) → getD far q 0 % 16384 ≤ getD (set reach (r / 16) n) (q / 16) 0 % 16384
+      go q l (yes e) d = rw (e, getD-set-same reach (r / 16) n 0 (omega arith)) (omega arith)
+      go q l (no ne) (yes e) = let before = others q l ne in let here : getD far q 0 % 16384 ≤ getD reach (r / 16) 0 % 16384 = rw e at before in rw (e, getD-set-same reach (r / 16) n 0 (omega arith)) (omega arith)
+      go q l (no ne) (no nd) = rw (getD-set-other reach (r / 16) (q / 16) n 0 nd) (others q l ne)
+
+-- the others, where row r alone is changed
+pub reach-others : (far reach : List ℕ) (m r n : ℕ) → Reached far reach m → (q : ℕ) → q < m → (q ≡ r → ⊥) → getD (set far r n) q 0 % 16384 ≤ getD reach (q / 16) 0 % 16384
+reach-others far reach m r n w q l ne = rw (getD-set-other far r q n 0 ne) (w .bound q l)
+
+pub reach-start : (m n : ℕ) (far reach : List ℕ) → m ≤ 16 * n → n ≤ 500 → m + 256 ≤ 16 * length reach → m ≤ length far
+    → Reached (span (λ r. r + 1) 0 m ++ drop m far) (span (λ s. 16 * s + 16) 0 n ++ drop n reach) m
+reach-start m n far reach le most room long =
+    record {
+      room = omega (arith, length-append (span (λ s. 16 * s + 16) 0 n) (drop n reach), length-span (λ s. 16 * s + 16) 0 n, length-drop n reach);
+      bound = λ r l. rw (filled-at (λ r. r + 1) far m r 0 l, filled-at (λ s. 16 * s + 16) reach n (r / 16) 0 (omega arith)) (omega arith);
+    }
 
 -- ---- no row before x has a pair
 

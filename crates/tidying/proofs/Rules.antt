@@ -49,11 +49,11 @@ c-not-own o c e =
     ⊎-elim (λ (q : o ≡ 1). let z : 1 ≡ inverseOp 1 = rw q at e in omega arith) (λ (q : o ≡ 2). let z : 2 ≡ inverseOp 2 = rw q at e in omega arith) (is-c o c)
 
 module _ (g h : Gate) where
-  same-target : sameLines g h ≡ true → g .target ≡ h .target
+  pub same-target : sameLines g h ≡ true → g .target ≡ h .target
   unfolding sameLines
   same-target e = eqb-true (g .target) (h .target) (and-left (eqb (g .target) (h .target)) _ e)
 
-  both-or-none : sameLines g h ≡ true → (k : ℕ) → k < 6 → eqb (control g k) 3 ≡ eqb (control h k) 3
+  pub both-or-none : sameLines g h ≡ true → (k : ℕ) → k < 6 → eqb (control g k) 3 ≡ eqb (control h k) 3
   unfolding sameLines
   both-or-none e k lt =
       beq-same (eqb (control g k) 3) (eqb (control h k) 3)

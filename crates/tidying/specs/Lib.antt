@@ -4,3 +4,4 @@ pub mod Tidying
 pub mod Answers
 pub mod Buffers
 pub mod Rows
+pub mod Views

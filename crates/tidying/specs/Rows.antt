@@ -2,7 +2,7 @@
 use mathlib.Core.Path.{_≡_}
 use mathlib.Core.Bool.{true, false}
 use mathlib.Core.List.{List}
-use Prim.Native.Nat.{ℕ, _+_, _%_, _<_, _≤_}
+use Prim.Native.Nat.{ℕ, _+_, _*_, _/_, _%_, _<_, _≤_}
 use lib.ListN.{length, getD, set}
 use Rattle.gates.specs.declared.Gate.{Gate}
 use Rattle.tidying.specs.Places.{mayChange}
@@ -41,12 +41,18 @@ pub record Known (gs : List Gate) (far : List ℕ) : Type 0 where
 abbrev pub Low : List ℕ → ℕ → Type 0
 Low far x = (r : ℕ) → r < x → 16384 ≤ getD far r 0
 
--- t is s after the rows from x to e have been looked at again, gate p having become g
+-- no row of a stretch of sixteen is clear further than the stretch's number; behind these is room to look at sixteen at once
+pub record Reached (far reach : List ℕ) (m : ℕ) : Type 0 where
+  pub room : m + 256 ≤ 16 * length reach
+  pub bound : (r : ℕ) → r < m → getD far r 0 % 16384 ≤ getD reach (r / 16) 0 % 16384
+
+-- t is s after those of the rows from x to e that stand before gate p have been looked at again, gate p having become g
 pub record Again (gs : List Gate) (p : ℕ) (g : Gate) (s t : List ℕ) (x e : ℕ) : Type 0 where
   pub len : length t ≡ length s
-  pub inside : (r : ℕ) → x ≤ r → r < e → Row (set gs p g) r (getD t r 0)
+  pub inside : (r : ℕ) → x ≤ r → r < e → r < p → Row (set gs p g) r (getD t r 0)
   pub below : (r : ℕ) → r < x → getD t r 0 ≡ getD s r 0
   pub above : (r : ℕ) → e ≤ r → getD t r 0 ≡ getD s r 0
+  pub behind : (r : ℕ) → p ≤ r → getD t r 0 ≡ getD s r 0
 
 -- i, j is a pair of gates that fits, gate i being clear up to gate j; i is the length where there is none
 pub record PairAt (gs : List Gate) (i j : ℕ) : Type 0 where

@@ -11,6 +11,7 @@ mod memory;
 mod passing;
 mod repeating;
 mod scan;
+mod views;
 
 use cascades::Counted;
 

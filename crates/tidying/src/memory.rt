@@ -1,13 +1,13 @@
 // What the search remembers: far[r] says how far row r is known to be clear, with 16384 added where it is known to have no pair; that alone stands
-// where a gate has gone. A changed gate is looked at again by the rows that reach it, found sixteen at a time.
+// where a gate has gone. reach[s] bounds this for the sixteen rows of stretch s, so that the rows that reach a changed gate are found 256 at a time.
 ghost use mathlib.Core.Path.{_≡_};
 ghost use mathlib.Core.Bool.{cond};
 ghost use mathlib.Core.List.{_++_};
-ghost use Prim.Native.Nat.{ℕ, _+_, _%_, _≤_, _<_};
+ghost use Prim.Native.Nat.{ℕ, _+_, _*_, _/_, _%_, _≤_, _<_};
 ghost use lib.ListN.{length, getD, set, drop};
 ghost use Rattle.ranges.specs.Ranges.{span};
 ghost use Rattle.tidying.specs.Buffers.{gatesIn, isGap, Stands, Holds};
-ghost use Rattle.tidying.specs.Rows.{Row, Known, Low, Again};
+ghost use Rattle.tidying.specs.Rows.{Row, Known, Low, Reached, Again};
 use gates::Gate;
 
 // Each of m rows is clear up to the gate behind its own.
@@ -22,9 +22,21 @@ pub fn start_rows(far: &mut [u16], m: usize)
     }
 }
 
+// Of n stretches, each reaches up to the gate behind its last row's.
+pub fn start_reach(reach: &mut [u16], n: usize)
+    requires { ⌜ (n ≤ 500) × (n ≤ length (now reach)) ⌝ }
+    ensures { λ _. ⌜ now (reach .exit) ≡ span (λ s. 16 * s + 16) 0 n ++ drop n (now (reach .entry)) ⌝ }
+{
+    let mut s: usize = 0;
+    while s < n {
+        reach[s] = (16 * s + 16) as u16;
+        s = s + 1;
+    }
+}
+
 // The larger of two numbers.
 fn larger(x: u16, y: u16) -> u16
-    ensures { λ r. ⌜ (x ≤ r) × (y ≤ r) ⌝ }
+    ensures { λ r. ⌜ (x ≤ r) × (y ≤ r) × (x < 16384 → y < 16384 → r < 16384) ⌝ }
 {
     if x < y { y } else { x }
 }
@@ -36,10 +48,10 @@ fn smaller(x: u16, y: u16) -> u16
     if x < y { x } else { y }
 }
 
-// No row of the sixteen from s on is clear further than this.
-pub fn furthest(far: &[u16], s: usize) -> u16
+// No row of the sixteen from s on, or of the stretches, is clear further than this.
+fn furthest(far: &[u16], s: usize) -> u16
     requires { ⌜ s + 16 ≤ length (now far) ⌝ }
-    ensures { λ r. ⌜ ((k : ℕ) → k < 16 → getD (now (far .entry)) (s + k) 0 % 16384 ≤ r) ⌝ }
+    ensures { λ r. ⌜ ((k : ℕ) → k < 16 → getD (now (far .entry)) (s + k) 0 % 16384 ≤ r) × (r < 16384) ⌝ }
 {
     let mut most: u16 = 0;
     let mut k: usize = 0;
@@ -126,6 +138,18 @@ fn lower_row(low: usize, r: usize, n: u16) -> usize
     if n < 16384 { r } else { low }
 }
 
+// The stretch of row r reaches up to place n.
+pub fn raise_reach(far: &[u16], reach: &mut [u16], m: usize, r: usize, n: u16)
+    requires { ⌜ (r < m) × (m ≤ 8000) × (n < 16384) × (getD (now far) r 0 % 16384 ≤ n) × (m + 256 ≤ 16 * length (now reach)) ⌝ }
+    requires { ⌜ ((q : ℕ) → q < m → (q ≡ r → ⊥) → getD (now far) q 0 % 16384 ≤ getD (now reach) (q / 16) 0 % 16384) ⌝ }
+    ensures { λ _. ⌜ Reached (now (far .entry)) (now (reach .exit)) m ⌝ }
+{
+    if n <= reach[r / 16] % 16384 {
+        return;
+    }
+    reach[r / 16] = n;
+}
+
 // The rows from x to e look again at gate p, which is to become g; answers the lowest row that may have a pair then.
 fn look_from(
     b: &[u8],
@@ -139,7 +163,7 @@ fn look_from(
 ) -> usize
     requires { ⌜ Holds (now b) (gatesIn (now b) m) ⌝ }
     requires { ⌜ (x ≤ e) × (e ≤ p) × (p < m) × (m ≤ 8000) × (m + 16 ≤ length (now far)) × Stands g × Low (now far) from ⌝ }
-    requires { ⌜ ((r : ℕ) → x ≤ r → r < e → Row (gatesIn (now b) m) r (getD (now far) r 0)) ⌝ }
+    requires { ⌜ ((r : ℕ) → x ≤ r → r < p → Row (gatesIn (now b) m) r (getD (now far) r 0)) ⌝ }
     ensures { λ _. ⌜ Again (gatesIn (now (b .entry)) m) p g (now (far .entry)) (now (far .exit)) x e ⌝ }
     ensures { λ q. ⌜ (q ≤ from) × Low (now (far .exit)) q ⌝ }
 {
@@ -154,10 +178,44 @@ fn look_from(
     low
 }
 
-// The same of at most sixteen rows, where one of them reaches gate p.
-fn look_stride(
+// Sixteen places on, or p.
+fn stride_end(x: usize, p: usize) -> usize
+    requires { ⌜ (x < p) × (p < 8000) ⌝ }
+    ensures { λ e. ⌜ (x < e) × (e ≤ p) × (e ≤ x + 16) × (e < p → x + 16 ≤ e) ⌝ }
+{
+    if p < x + 16 { p } else { x + 16 }
+}
+
+// The same of stretch s, where one of its rows reaches gate p.
+fn look_stretch(
     b: &[u8],
     far: &mut [u16],
+    reach: &mut [u16],
+    m: usize,
+    p: usize,
+    g: Gate,
+    s: usize,
+    from: usize,
+) -> usize
+    requires { ⌜ Holds (now b) (gatesIn (now b) m) ⌝ }
+    requires { ⌜ (16 * s < p) × (p < m) × (m ≤ 8000) × (m + 16 ≤ length (now far)) × Stands g × Low (now far) from × Reached (now far) (now reach) m ⌝ }
+    requires { ⌜ ((r : ℕ) → 16 * s ≤ r → r < p → Row (gatesIn (now b) m) r (getD (now far) r 0)) ⌝ }
+    ensures { λ _. ⌜ Again (gatesIn (now (b .entry)) m) p g (now (far .entry)) (now (far .exit)) (16 * s) (16 * s + 16) ⌝ }
+    ensures { λ q. ⌜ (q ≤ from) × Low (now (far .exit)) q × Reached (now (far .exit)) (now (reach .exit)) m ⌝ }
+{
+    if ((reach[s] % 16384) as usize) < p {
+        return from;
+    }
+    let low = look_from(b, far, m, p, g, 16 * s, stride_end(16 * s, p), from);
+    reach[s] = furthest(far, 16 * s);
+    low
+}
+
+// The same of the stretches from x to e, of which there are sixteen at most.
+fn look_stretches(
+    b: &[u8],
+    far: &mut [u16],
+    reach: &mut [u16],
     m: usize,
     p: usize,
     g: Gate,
@@ -166,23 +224,33 @@ fn look_stride(
     from: usize,
 ) -> usize
     requires { ⌜ Holds (now b) (gatesIn (now b) m) ⌝ }
-    requires { ⌜ (x ≤ e) × (e ≤ p) × (p < m) × (m ≤ 8000) × (m + 16 ≤ length (now far)) × Stands g × Low (now far) from ⌝ }
-    requires { ⌜ (e ≤ x + 16) × ((r : ℕ) → x ≤ r → r < e → Row (gatesIn (now b) m) r (getD (now far) r 0)) ⌝ }
-    ensures { λ _. ⌜ Again (gatesIn (now (b .entry)) m) p g (now (far .entry)) (now (far .exit)) x e ⌝ }
-    ensures { λ q. ⌜ (q ≤ from) × Low (now (far .exit)) q ⌝ }
+    requires { ⌜ (x < e) × (e ≤ x + 16) × (16 * e < p + 16) × (p < m) × (m ≤ 8000) × (m + 16 ≤ length (now far)) × Stands g × Low (now far) from × Reached (now far) (now reach) m ⌝ }
+    requires { ⌜ ((r : ℕ) → 16 * x ≤ r → r < p → Row (gatesIn (now b) m) r (getD (now far) r 0)) ⌝ }
+    ensures { λ _. ⌜ Again (gatesIn (now (b .entry)) m) p g (now (far .entry)) (now (far .exit)) (16 * x) (16 * e) ⌝ }
+    ensures { λ q. ⌜ (q ≤ from) × Low (now (far .exit)) q × Reached (now (far .exit)) (now (reach .exit)) m ⌝ }
 {
-    if (furthest(far, x) as usize) < p {
+    if (furthest(reach, x) as usize) < p {
         return from;
     }
-    look_from(b, far, m, p, g, x, e, from)
+    let mut low = from;
+    let mut s = x;
+    while s < e {
+        low = look_stretch(b, far, reach, m, p, g, s, low);
+        s = s + 1;
+    }
+    low
 }
 
-// Sixteen places on, or p.
-fn stride_end(x: usize, p: usize) -> usize
-    requires { ⌜ (x < p) × (p < 8000) ⌝ }
-    ensures { λ e. ⌜ (x < e) × (e ≤ p) × (e ≤ x + 16) ⌝ }
+// Sixteen stretches on, or behind the last that has a row before p.
+fn stretches_end(x: usize, p: usize) -> usize
+    requires { ⌜ (16 * x < p) × (p < 8000) ⌝ }
+    ensures { λ e. ⌜ (x < e) × (e ≤ x + 16) × (16 * e < p + 16) ⌝ }
 {
-    if p < x + 16 { p } else { x + 16 }
+    if p < 16 * x + 256 {
+        (p + 15) / 16
+    } else {
+        x + 16
+    }
 }
 
 // The number of row p, which starts anew with g.
@@ -197,18 +265,28 @@ fn own_row(p: usize, g: Gate) -> u16
 }
 
 // Gate p is to become g: the rows before it are looked at again, and its own starts anew. Answers the lowest row that may have a pair then.
-pub fn settle_rows(b: &[u8], far: &mut [u16], m: usize, p: usize, g: Gate, from: usize) -> usize
+pub fn settle_rows(
+    b: &[u8],
+    far: &mut [u16],
+    reach: &mut [u16],
+    m: usize,
+    p: usize,
+    g: Gate,
+    from: usize,
+) -> usize
     requires { ⌜ Holds (now b) (gatesIn (now b) m) ⌝ }
-    requires { ⌜ (from ≤ p) × (p < m) × (m ≤ 8000) × Stands g × Known (gatesIn (now b) m) (now far) × Low (now far) from ⌝ }
+    requires { ⌜ (from ≤ p) × (p < m) × (m ≤ 8000) × Stands g × Known (gatesIn (now b) m) (now far) × Low (now far) from × Reached (now far) (now reach) m ⌝ }
     ensures { λ q. ⌜ Known (set (gatesIn (now (b .entry)) m) p g) (now (far .exit)) × (q ≤ from) × Low (now (far .exit)) q ⌝ }
+    ensures { λ _. ⌜ Reached (now (far .exit)) (now (reach .exit)) m ⌝ }
 {
     let mut low = from;
     let mut x: usize = 0;
-    while x < p {
-        let e = stride_end(x, p);
-        low = look_stride(b, far, m, p, g, x, e, low);
+    while 16 * x < p {
+        let e = stretches_end(x, p);
+        low = look_stretches(b, far, reach, m, p, g, x, e, low);
         x = e;
     }
     far[p] = own_row(p, g);
+    raise_reach(far, reach, m, p, (p + 1) as u16);
     low
 }

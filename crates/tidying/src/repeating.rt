@@ -13,23 +13,32 @@ pub struct Done {
     pub steps: usize,
 }
 
-// Tidies the m records of the buffer, with a number for each row to remember by, and sixteen more.
-fn repeat_steps(b: &mut [u8], far: &mut [u16], m: usize) -> Done
+// Tidies the m records of the buffer, with room to remember by: a number for each row, and one and two for each stretch of sixteen.
+fn repeat_steps(
+    b: &mut [u8],
+    far: &mut [u16],
+    reach: &mut [u16],
+    marks: &mut [u64],
+    m: usize,
+) -> Done
     requires { ⌜ Holds (now b) (gatesOf (now b)) × Each (IsGate 6) (gatesOf (now b)) ⌝ }
-    requires { ⌜ (length (now b) ≡ 8 * m) × (m ≤ 8000) × (m + 16 ≤ length (now far)) ⌝ }
+    requires { ⌜ (length (now b) ≡ 8 * m) × (m ≤ 8000) × (m + 16 ≤ length (now far)) × (m + 256 ≤ 16 * length (now reach)) × (m + 16 ≤ 8 * length (now marks)) ⌝ }
     ensures { λ r. ⌜ TidiedIn (now (b .entry)) (now (b .exit)) (r .left) (r .steps) ⌝ }
 {
     super::memory::start_rows(far, m);
+    let stretches = (m + 15) / 16;
+    super::memory::start_reach(reach, stretches);
+    super::views::start_marks(marks, 2 * stretches);
     let mut from: usize = 0;
     let mut steps: usize = 0;
     loop {
-        let pair = super::scan::find_pair(b, far, m, from);
+        let pair = super::scan::find_pair(b, far, reach, marks, m, from);
         let i = pair.i;
         let j = pair.j;
         if m <= i {
             break;
         }
-        from = super::applying::apply_rule(b, far, m, i, j);
+        from = super::applying::apply_rule(b, far, reach, marks, m, i, j);
         steps = steps + 1;
     }
     let left = super::buffer::close_gaps(b, m);
@@ -46,8 +55,12 @@ pub fn tidy_records(b: &mut [u8], m: usize) -> Done
     // A short cascade gets a short memory: clearing the long one takes longer than tidying it.
     if m <= 64 {
         let mut few = [0u16; 80];
-        return repeat_steps(b, &mut few, m);
+        let mut reach = [0u16; 20];
+        let mut marks = [0u64; 10];
+        return repeat_steps(b, &mut few, &mut reach, &mut marks, m);
     }
     let mut far = [0u16; 8016];
-    repeat_steps(b, &mut far, m)
+    let mut reach = [0u16; 516];
+    let mut marks = [0u64; 1002];
+    repeat_steps(b, &mut far, &mut reach, &mut marks, m)
 }

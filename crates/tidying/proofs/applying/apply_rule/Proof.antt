@@ -11,7 +11,8 @@ use Rattle.gates.proofs.Gates.{inverse-gate}
 use Rattle.tidying.specs.Rules.{cancels, merges, reduces, loosened, retuned}
 use Rattle.tidying.specs.Tidying.{gate, ruled}
 use Rattle.tidying.specs.Buffers.{gatesIn, isGap, Holds, kept, rank}
-use Rattle.tidying.specs.Rows.{Known, Low}
+use Rattle.tidying.specs.Rows.{Known, Low, Reached}
+use Rattle.tidying.specs.Views.{Marked}
 use Rattle.tidying.proofs.Rules.{reduction, loosened-gate, retuned-gate}
 use Rattle.tidying.proofs.Steps.{last-rule}
 use Rattle.tidying.proofs.Gaps.{gate-real}
@@ -36,70 +37,71 @@ module _ (s : tie.Start) where
   count = length-gates (s .args .b .now) (s .args .m)
 
   i-inside : s .args .i < length (given s)
-  i-inside = rw count (s .pre .1 .0)
+  i-inside = rw count (s .pre .1 .0 .0)
 
   j-inside : s .args .j < length (given s)
-  j-inside = s .pre .1 .2 .inside i-inside
+  j-inside = s .pre .1 .0 .2 .inside i-inside
 
   order : s .args .i < s .args .j
-  order = s .pre .1 .2 .clear i-inside .order
+  order = s .pre .1 .0 .2 .clear i-inside .order
 
   first-gate : IsGate 6 (first s)
-  first-gate = holds-gate _ _ (s .pre .0) _ i-inside .real (s .pre .1 .2 .gate-i i-inside)
+  first-gate = holds-gate _ _ (s .pre .0) _ i-inside .real (s .pre .1 .0 .2 .gate-i i-inside)
 
   second-gate : IsGate 6 (second s)
   second-gate =
       holds-gate _ _ (s .pre .0) _ j-inside .real
-      (fits-real (given s) (s .pre .0 .gates) (s .args .i) (s .args .j) i-inside j-inside (s .pre .1 .2 .gate-i i-inside) (s .pre .1 .2 .fit i-inside))
+      (fits-real (given s) (s .pre .0 .gates) (s .args .i) (s .args .j) i-inside j-inside (s .pre .1 .0 .2 .gate-i i-inside) (s .pre .1 .0 .2 .fit i-inside))
 
   -- two gates in their place, which are what the rule leaves
-  done : (g h : Gate) (b far : List ℕ) (q : ℕ) → kept (set (set (given s) (s .args .j) h) (s .args .i) g) ≡ ruled (kept (given s)) (rank (given s) (s .args .i)) (rank (given s) (s .args .j))
-      → Holds b (set (set (given s) (s .args .j) h) (s .args .i) g) → Known (set (set (given s) (s .args .j) h) (s .args .i) g) far → q ≤ s .args .i → Low far q
+  done : (g h : Gate) (b far reach marks : List ℕ) (q : ℕ) → kept (set (set (given s) (s .args .j) h) (s .args .i) g) ≡ ruled (kept (given s)) (rank (given s) (s .args .i)) (rank (given s) (s .args .j))
+      → Holds b (set (set (given s) (s .args .j) h) (s .args .i) g) → Known (set (set (given s) (s .args .j) h) (s .args .i) g) far → q ≤ s .args .i → Low far q → Reached far reach (s .args .m)
+      → Marked (set (set (given s) (s .args .j) h) (s .args .i) g) marks
       → (Holds b (gatesIn b (s .args .m)) × (kept (gatesIn b (s .args .m)) ≡ ruled (kept (given s)) (rank (given s) (s .args .i)) (rank (given s) (s .args .j))))
-      × (Known (gatesIn b (s .args .m)) far × (q ≤ s .args .m) × Low far q)
-  done g h b far q e holds known le low =
+      × ((Known (gatesIn b (s .args .m)) far × (q ≤ s .args .m) × Low far q) × (Reached far reach (s .args .m) × Marked (gatesIn b (s .args .m)) marks))
+  done g h b far reach marks q e holds known le low reached marked =
       holds-as
       (λ gs.
-      (Holds b gs × (kept gs ≡ ruled (kept (given s)) (rank (given s) (s .args .i)) (rank (given s) (s .args .j)))) × (Known gs far × (q ≤ s .args .m) × Low far q))
+      (Holds b gs × (kept gs ≡ ruled (kept (given s)) (rank (given s) (s .args .i)) (rank (given s) (s .args .j)))) × ((Known gs far × (q ≤ s .args .m) × Low far q) × (Reached far reach (s .args .m) × Marked gs marks)))
       b (set (set (given s) (s .args .j) h) (s .args .i) g) (s .args .m) holds
       (length-set (set (given s) (s .args .j) h) (s .args .i) g ∙ length-set (given s) (s .args .j) h ∙ count)
-      ((holds, e), (known, omega (arith, s .pre .1 .0), low))
+      ((holds, e), ((known, omega (arith, s .pre .1 .0 .0), low), (reached, marked)))
 
 -- the records read as the pair
 module _ (c : tie.After-read-gate2) where
-  first-is : c .before .before .read-gate .result ≡ first (c .before .before .before .before .before .before)
-  first-is = c .before .before .read-gate .ensures ∙ sym (gate-in (c .before .before .before .before .before .before .args .b .now) (c .before .before .before .before .before .before .args .m) (c .before .before .before .before .before .before .args .i) (c .before .before .before .before .before .before .pre .1 .0))
+  first-is : c .before .before .read-gate .result ≡ first (c .before .before .before .before .before .before .before .before)
+  first-is = c .before .before .read-gate .ensures ∙ sym (gate-in (c .before .before .before .before .before .before .before .before .args .b .now) (c .before .before .before .before .before .before .before .before .args .m) (c .before .before .before .before .before .before .before .before .args .i) (c .before .before .before .before .before .before .before .before .pre .1 .0 .0))
 
-  second-is : c .read-gate2 .result ≡ second (c .before .before .before .before .before .before)
-  second-is = c .read-gate2 .ensures ∙ sym (gate-in (c .before .before .before .before .before .before .args .b .now) (c .before .before .before .before .before .before .args .m) (c .before .before .before .before .before .before .args .j) (rw (count (c .before .before .before .before .before .before)) at (j-inside (c .before .before .before .before .before .before))))
+  second-is : c .read-gate2 .result ≡ second (c .before .before .before .before .before .before .before .before)
+  second-is = c .read-gate2 .ensures ∙ sym (gate-in (c .before .before .before .before .before .before .before .before .args .b .now) (c .before .before .before .before .before .before .before .before .args .m) (c .before .before .before .before .before .before .before .before .args .j) (rw (count (c .before .before .before .before .before .before .before .before)) at (j-inside (c .before .before .before .before .before .before .before .before))))
 
   first-ok : IsGate 6 (c .before .before .read-gate .result)
-  first-ok = rw first-is (first-gate (c .before .before .before .before .before .before))
+  first-ok = rw first-is (first-gate (c .before .before .before .before .before .before .before .before))
 
   second-ok : IsGate 6 (c .read-gate2 .result)
-  second-ok = rw second-is (second-gate (c .before .before .before .before .before .before))
+  second-ok = rw second-is (second-gate (c .before .before .before .before .before .before .before .before))
 
 -- what the tests say of it
 module _ (c : tie.After-cancels-pair) where
-  cancels-is : cancels (first (c .before .before .before .before .before .before .before)) (second (c .before .before .before .before .before .before .before)) ≡ c .cancels-pair .result
+  cancels-is : cancels (first (c .before .before .before .before .before .before .before .before .before)) (second (c .before .before .before .before .before .before .before .before .before)) ≡ c .cancels-pair .result
   cancels-is = ap₂ cancels (sym (first-is (c .before))) (sym (second-is (c .before))) ∙ sym (c .cancels-pair .ensures)
 
 module _ (c : tie.After-merges-pair) where
-  merges-is : merges (first (c .before .before .before .before .before .before .before .before .before)) (second (c .before .before .before .before .before .before .before .before .before)) ≡ c .merges-pair .result
+  merges-is : merges (first (c .before .before .before .before .before .before .before .before .before .before .before)) (second (c .before .before .before .before .before .before .before .before .before .before .before)) ≡ c .merges-pair .result
   merges-is = ap₂ merges (sym (first-is (c .before .before .before))) (sym (second-is (c .before .before .before))) ∙ sym (c .merges-pair .ensures)
 
 module _ (c : tie.Else2) where
   reduces-is : reduces (c .before .before .before .before .before .before .read-gate .result) (c .before .before .before .before .read-gate2 .result) ≡ true
   reduces-is =
       rw (first-is (c .before .before .before .before), second-is (c .before .before .before .before))
-      (last-rule _ _ (c .before .before .before .before .before .before .before .before .before .before .pre .1 .2 .fit (i-inside (c .before .before .before .before .before .before .before .before .before .before))) (cancels-is (c .before .before .before) ∙ c .before .before .if1 .left) (merges-is (c .before) ∙ c .if2 .left))
+      (last-rule _ _ (c .before .before .before .before .before .before .before .before .before .before .before .before .pre .1 .0 .2 .fit (i-inside (c .before .before .before .before .before .before .before .before .before .before .before .before))) (cancels-is (c .before .before .before) ∙ c .before .before .if1 .left) (merges-is (c .before) ∙ c .if2 .left))
 
 -- what control reduction makes of it
 module _ (c : tie.After-reduce-pair) where
-  loose-is : c .reduce-pair .result .first ≡ loosened (first (c .before .before .before .before .before .before .before .before .before .before .before)) (second (c .before .before .before .before .before .before .before .before .before .before .before))
+  loose-is : c .reduce-pair .result .first ≡ loosened (first (c .before .before .before .before .before .before .before .before .before .before .before .before .before)) (second (c .before .before .before .before .before .before .before .before .before .before .before .before .before))
   loose-is = c .reduce-pair .ensures .0 ∙ ap₂ loosened (first-is (c .before .before .before .before .before)) (second-is (c .before .before .before .before .before))
 
-  tuned-is : c .reduce-pair .result .second ≡ retuned (first (c .before .before .before .before .before .before .before .before .before .before .before)) (second (c .before .before .before .before .before .before .before .before .before .before .before))
+  tuned-is : c .reduce-pair .result .second ≡ retuned (first (c .before .before .before .before .before .before .before .before .before .before .before .before .before)) (second (c .before .before .before .before .before .before .before .before .before .before .before .before .before))
   tuned-is = c .reduce-pair .ensures .1 ∙ ap₂ retuned (first-is (c .before .before .before .before .before)) (second-is (c .before .before .before .before .before))
 
   loose-ok : IsGate 6 (c .reduce-pair .result .first)
@@ -111,13 +113,13 @@ module _ (c : tie.After-reduce-pair) where
 -- the other C
 module _ (c : tie.After-invert) where
   turned-ok : IsGate 6 (c .invert .result)
-  turned-ok = rw (c .invert .ensures) (inverse-gate _ _ (second-ok (c .before .before .before .before .before .before .before .before)))
+  turned-ok = rw (c .invert .ensures) (inverse-gate _ _ (second-ok (c .before .before .before .before .before .before .before .before .before .before)))
 
 read-gate-requires : tie.Need-read-gate-requires
-read-gate-requires c κs = (holds-fits _ _ (c .before .before .before .pre .0) _ (i-inside (c .before .before .before)), holds-lines _ _ (c .before .before .before .pre .0) _ (i-inside (c .before .before .before)))
+read-gate-requires c κs = (holds-fits _ _ (c .before .before .before .before .before .pre .0) _ (i-inside (c .before .before .before .before .before)), holds-lines _ _ (c .before .before .before .before .before .pre .0) _ (i-inside (c .before .before .before .before .before)))
 
 read-gate-requires-2 : tie.Need-read-gate-requires-2
-read-gate-requires-2 c κs = (holds-fits _ _ (c .before .before .before .before .before .pre .0) _ (j-inside (c .before .before .before .before .before)), holds-lines _ _ (c .before .before .before .before .before .pre .0) _ (j-inside (c .before .before .before .before .before)))
+read-gate-requires-2 c κs = (holds-fits _ _ (c .before .before .before .before .before .before .before .pre .0) _ (j-inside (c .before .before .before .before .before .before .before)), holds-lines _ _ (c .before .before .before .before .before .before .before .pre .0) _ (j-inside (c .before .before .before .before .before .before .before)))
 
 cancels-pair-requires : tie.Need-cancels-pair-requires
 cancels-pair-requires c κs = search needs
@@ -130,8 +132,8 @@ leave-gap-requires-2 c κs = search needs
 
 replace-both-requires : tie.Need-replace-both-requires
 replace-both-requires c κs =
-    let s = c .before .before .before .before .before .before .before .before .before .before .before .before in
-    (s .pre .0, (order s, rw (count s) at (j-inside s), s .pre .1 .1, rw (c .before .leave-gap .ensures) stands-gap, rw (c .leave-gap2 .ensures) stands-gap, s .pre .1 .3, s .pre .1 .4))
+    let s = c .before .before .before .before .before .before .before .before .before .before .before .before .before .before .before .before in
+    (s .pre .0, ((order s, rw (count s) at (j-inside s), s .pre .1 .0 .1, rw (c .before .leave-gap .ensures) stands-gap, rw (c .leave-gap2 .ensures) stands-gap, s .pre .1 .0 .3, s .pre .1 .0 .4), s .pre .1 .1))
 
 same-length : tie.Need-same-length
 same-length c = search needs
@@ -139,14 +141,20 @@ same-length c = search needs
 same-length-2 : tie.Need-same-length-2
 same-length-2 c = search needs
 
+same-length-3 : tie.Need-same-length-3
+same-length-3 c = search needs
+
+same-length-4 : tie.Need-same-length-4
+same-length-4 c = search needs
+
 returns : tie.Need-returns
 unfolding isGap
 returns c =
-    let s = c .before .before .before .before .before .before .before .before .before .before .before .before .before .before .before .before .before in
-    let d = c .before .before .before .before .replace-both .ensures in
-    done s _ _ _ _ _
-    (ruled-none (given s) (s .pre .0 .gates) (s .args .i) (s .args .j) (i-inside s) (s .pre .1 .2) _ _ (cancels-is (c .before .before .before .before .before .before .before .before .before .before) ∙ c .before .before .before .before .before .before .before .before .before .if1 .taken) (rw (c .before .before .before .before .before .before .leave-gap .ensures)) (rw (c .before .before .before .before .before .leave-gap2 .ensures)))
-    (d .0) (d .1 .0) (d .1 .1) (d .1 .2)
+    let s = c .before .before .before .before .before .before .before .before .before .before .before .before .before .before .before .before .before .before .before .before .before .before .before .before .before in
+    let d = c .before .before .before .before .before .before .before .before .replace-both .ensures in
+    done s _ _ _ _ _ _ _
+    (ruled-none (given s) (s .pre .0 .gates) (s .args .i) (s .args .j) (i-inside s) (s .pre .1 .0 .2) _ _ (cancels-is (c .before .before .before .before .before .before .before .before .before .before .before .before .before .before .before .before) ∙ c .before .before .before .before .before .before .before .before .before .before .before .before .before .before .before .if1 .taken) (rw (c .before .before .before .before .before .before .before .before .before .before .leave-gap .ensures)) (rw (c .before .before .before .before .before .before .before .before .before .leave-gap2 .ensures)))
+    (d .0) (d .1 .0 .0) (d .1 .0 .1) (d .1 .0 .2) (d .1 .1 .0) (d .1 .1 .1)
 
 merges-pair-requires : tie.Need-merges-pair-requires
 merges-pair-requires c κs = search needs
@@ -159,32 +167,8 @@ invert-requires c κs = search needs
 
 replace-both-requires-2 : tie.Need-replace-both-requires-2
 replace-both-requires-2 c κs =
-    let s = c .before .before .before .before .before .before .before .before .before .before .before .before .before .before in
-    (s .pre .0, (order s, rw (count s) at (j-inside s), s .pre .1 .1, rw (c .before .leave-gap3 .ensures) stands-gap, stands-gate _ (turned-ok c), s .pre .1 .3, s .pre .1 .4))
-
-same-length-3 : tie.Need-same-length-3
-same-length-3 c = search needs
-
-same-length-4 : tie.Need-same-length-4
-same-length-4 c = search needs
-
-returns-2 : tie.Need-returns-2
-unfolding isGap
-returns-2 c =
-    let s = c .before .before .before .before .before .before .before .before .before .before .before .before .before .before .before .before .before .before .before in
-    let d = c .before .before .before .before .replace-both2 .ensures in
-    done s _ _ _ _ _
-    (ruled-one (given s) (s .pre .0 .gates) (s .args .i) (s .args .j) (i-inside s) (s .pre .1 .2) _ _ (cancels-is (c .before .before .before .before .before .before .before .before .before .before .before .before) ∙ c .before .before .before .before .before .before .before .before .before .before .before .if1 .left) (merges-is (c .before .before .before .before .before .before .before .before .before .before) ∙ c .before .before .before .before .before .before .before .before .before .if2 .taken) (rw (c .before .before .before .before .before .before .leave-gap3 .ensures))
-    (gate-real _ (turned-ok (c .before .before .before .before .before))) (c .before .before .before .before .before .invert .ensures ∙ ap inverse (second-is (c .before .before .before .before .before .before .before .before .before .before .before .before .before))))
-    (d .0) (d .1 .0) (d .1 .1) (d .1 .2)
-
-reduce-pair-requires : tie.Need-reduce-pair-requires
-reduce-pair-requires c κs = (reduces-is c, first-ok (c .before .before .before .before) .packed, second-ok (c .before .before .before .before) .packed)
-
-replace-both-requires-3 : tie.Need-replace-both-requires-3
-replace-both-requires-3 c κs =
-    let s = c .before .before .before .before .before .before .before .before .before .before .before .before .before in
-    (s .pre .0, (order s, rw (count s) at (j-inside s), s .pre .1 .1, stands-gate _ (loose-ok (c .before .before)), stands-gate _ (tuned-ok (c .before .before)), s .pre .1 .3, s .pre .1 .4))
+    let s = c .before .before .before .before .before .before .before .before .before .before .before .before .before .before .before .before .before .before in
+    (s .pre .0, ((order s, rw (count s) at (j-inside s), s .pre .1 .0 .1, rw (c .before .leave-gap3 .ensures) stands-gap, stands-gate _ (turned-ok c), s .pre .1 .0 .3, s .pre .1 .0 .4), s .pre .1 .1))
 
 same-length-5 : tie.Need-same-length-5
 same-length-5 c = search needs
@@ -192,14 +176,50 @@ same-length-5 c = search needs
 same-length-6 : tie.Need-same-length-6
 same-length-6 c = search needs
 
+same-length-7 : tie.Need-same-length-7
+same-length-7 c = search needs
+
+same-length-8 : tie.Need-same-length-8
+same-length-8 c = search needs
+
+returns-2 : tie.Need-returns-2
+unfolding isGap
+returns-2 c =
+    let s = c .before .before .before .before .before .before .before .before .before .before .before .before .before .before .before .before .before .before .before .before .before .before .before .before .before .before .before in
+    let d = c .before .before .before .before .before .before .before .before .replace-both2 .ensures in
+    done s _ _ _ _ _ _ _
+    (ruled-one (given s) (s .pre .0 .gates) (s .args .i) (s .args .j) (i-inside s) (s .pre .1 .0 .2) _ _ (cancels-is (c .before .before .before .before .before .before .before .before .before .before .before .before .before .before .before .before .before .before) ∙ c .before .before .before .before .before .before .before .before .before .before .before .before .before .before .before .before .before .if1 .left) (merges-is (c .before .before .before .before .before .before .before .before .before .before .before .before .before .before .before .before) ∙ c .before .before .before .before .before .before .before .before .before .before .before .before .before .before .before .if2 .taken) (rw (c .before .before .before .before .before .before .before .before .before .before .leave-gap3 .ensures))
+    (gate-real _ (turned-ok (c .before .before .before .before .before .before .before .before .before))) (c .before .before .before .before .before .before .before .before .before .invert .ensures ∙ ap inverse (second-is (c .before .before .before .before .before .before .before .before .before .before .before .before .before .before .before .before .before .before .before))))
+    (d .0) (d .1 .0 .0) (d .1 .0 .1) (d .1 .0 .2) (d .1 .1 .0) (d .1 .1 .1)
+
+reduce-pair-requires : tie.Need-reduce-pair-requires
+reduce-pair-requires c κs = (reduces-is c, first-ok (c .before .before .before .before) .packed, second-ok (c .before .before .before .before) .packed)
+
+replace-both-requires-3 : tie.Need-replace-both-requires-3
+replace-both-requires-3 c κs =
+    let s = c .before .before .before .before .before .before .before .before .before .before .before .before .before .before .before .before .before in
+    (s .pre .0, ((order s, rw (count s) at (j-inside s), s .pre .1 .0 .1, stands-gate _ (loose-ok (c .before .before .before .before)), stands-gate _ (tuned-ok (c .before .before .before .before)), s .pre .1 .0 .3, s .pre .1 .0 .4), s .pre .1 .1))
+
+same-length-9 : tie.Need-same-length-9
+same-length-9 c = search needs
+
+same-length-10 : tie.Need-same-length-10
+same-length-10 c = search needs
+
+same-length-11 : tie.Need-same-length-11
+same-length-11 c = search needs
+
+same-length-12 : tie.Need-same-length-12
+same-length-12 c = search needs
+
 returns-3 : tie.Need-returns-3
 returns-3 c =
-    let s = c .before .before .before .before .before .before .before .before .before .before .before .before .before .before .before .before .before .before in
-    let d = c .before .before .before .before .replace-both3 .ensures in
-    done s _ _ _ _ _
-    (ruled-two (given s) (s .pre .0 .gates) (s .args .i) (s .args .j) (i-inside s) (s .pre .1 .2) _ _ (cancels-is (c .before .before .before .before .before .before .before .before .before .before .before) ∙ c .before .before .before .before .before .before .before .before .before .before .if1 .left) (merges-is (c .before .before .before .before .before .before .before .before .before) ∙ c .before .before .before .before .before .before .before .before .if2 .left)
-    (gate-real _ (loose-ok (c .before .before .before .before .before .before .before))) (gate-real _ (tuned-ok (c .before .before .before .before .before .before .before))) (loose-is (c .before .before .before .before .before .before .before)) (tuned-is (c .before .before .before .before .before .before .before)))
-    (d .0) (d .1 .0) (d .1 .1) (d .1 .2)
+    let s = c .before .before .before .before .before .before .before .before .before .before .before .before .before .before .before .before .before .before .before .before .before .before .before .before .before .before in
+    let d = c .before .before .before .before .before .before .before .before .replace-both3 .ensures in
+    done s _ _ _ _ _ _ _
+    (ruled-two (given s) (s .pre .0 .gates) (s .args .i) (s .args .j) (i-inside s) (s .pre .1 .0 .2) _ _ (cancels-is (c .before .before .before .before .before .before .before .before .before .before .before .before .before .before .before .before .before) ∙ c .before .before .before .before .before .before .before .before .before .before .before .before .before .before .before .before .if1 .left) (merges-is (c .before .before .before .before .before .before .before .before .before .before .before .before .before .before .before) ∙ c .before .before .before .before .before .before .before .before .before .before .before .before .before .before .if2 .left)
+    (gate-real _ (loose-ok (c .before .before .before .before .before .before .before .before .before .before .before .before .before))) (gate-real _ (tuned-ok (c .before .before .before .before .before .before .before .before .before .before .before .before .before))) (loose-is (c .before .before .before .before .before .before .before .before .before .before .before .before .before)) (tuned-is (c .before .before .before .before .before .before .before .before .before .before .before .before .before)))
+    (d .0) (d .1 .0 .0) (d .1 .0 .1) (d .1 .0 .2) (d .1 .1 .0) (d .1 .1 .1)
 
 pub apply-rule-spec : {M : Type 1} → statement M
 apply-rule-spec =
@@ -213,16 +233,22 @@ apply-rule-spec =
     replace-both-requires
     same-length
     same-length-2
+    same-length-3
+    same-length-4
     returns
     merges-pair-requires
     leave-gap-requires-3
     invert-requires
     replace-both-requires-2
-    same-length-3
-    same-length-4
+    same-length-5
+    same-length-6
+    same-length-7
+    same-length-8
     returns-2
     reduce-pair-requires
     replace-both-requires-3
-    same-length-5
-    same-length-6
+    same-length-9
+    same-length-10
+    same-length-11
+    same-length-12
     returns-3)

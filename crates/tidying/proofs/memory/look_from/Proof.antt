@@ -39,7 +39,7 @@ slice-read-look-again : tie.Need-slice-read-look-again Inv-loop μ-loop
 slice-read-look-again c = omega (arith, room (c .before .before))
 
 look-again-requires : tie.Need-look-again-requires Inv-loop μ-loop
-look-again-requires c κs = (c .before .before .before .before .before .pre .0, (omega (arith, c .before .loop-test .taken, c .before .before .before .before .before .pre .1), c .before .before .before .before .before .pre .1 .0 .2, c .before .before .before .before .before .pre .1 .0 .3, c .before .before .before .before .before .pre .1 .0 .5, subst (Row (gatesIn (c .before .before .before .before .before .args .b .now) (c .before .before .before .before .before .args .m)) (c .before .before .loop .r)) (sym (c .before .before .loop .inv .again .above (c .before .before .loop .r) (omega arith))) (c .before .before .before .before .before .pre .1 .1 (c .before .before .loop .r) (c .before .before .loop .inv .begun) (c .before .loop-test .taken))))
+look-again-requires c κs = (c .before .before .before .before .before .pre .0, (omega (arith, c .before .loop-test .taken, c .before .before .before .before .before .pre .1), c .before .before .before .before .before .pre .1 .0 .2, c .before .before .before .before .before .pre .1 .0 .3, c .before .before .before .before .before .pre .1 .0 .5, subst (Row (gatesIn (c .before .before .before .before .before .args .b .now) (c .before .before .before .before .before .args .m)) (c .before .before .loop .r)) (sym (c .before .before .loop .inv .again .above (c .before .before .loop .r) (omega arith))) (c .before .before .before .before .before .pre .1 .1 (c .before .before .loop .r) (c .before .before .loop .inv .begun) (omega (arith, c .before .loop-test .taken, c .before .before .before .before .before .pre .1)))))
 
 mul-far : tie.Need-mul-far Inv-loop μ-loop
 mul-far c = search needs
@@ -59,7 +59,7 @@ loop-less c = search needs
 loop-again : tie.Need-loop-again Inv-loop μ-loop
 loop-again c =
     record {
-      again = again-next _ _ _ _ _ _ _ _ (c .before .before .before .before .loop .inv .begun) (omega (arith, c .before .before .before .before .before .before .before .pre .1, c .before .before .before .before .loop .inv .within)) (c .before .before .before .before .loop .inv .again) (c .before .look-again .ensures);
+      again = again-next _ _ _ _ _ _ _ _ (c .before .before .before .before .loop .inv .begun) (omega (arith, c .before .before .before .loop-test .taken, c .before .before .before .before .before .before .before .pre .1)) (omega (arith, c .before .before .before .before .before .before .before .pre .1, c .before .before .before .before .loop .inv .within)) (c .before .before .before .before .loop .inv .again) (c .before .look-again .ensures);
       begun = omega (arith, c .before .before .before .before .loop .inv .begun);
       within = omega (arith, c .before .before .before .loop-test .taken);
       less = omega (arith, c .lower-row .ensures, c .before .before .before .before .loop .inv .less);

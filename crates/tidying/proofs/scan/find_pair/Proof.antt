@@ -4,41 +4,53 @@ use mathlib.Core.Path.{_≡_, refl, sym, ap₂, _∙_}
 use mathlib.Core.Bool.{false}
 use mathlib.Core.Logic.{⊎-elim}
 use mathlib.Core.List.{List}
-use Prim.Native.Nat.{ℕ, _+_, _-_, _<_, _≤_}
+use Prim.Native.Nat.{ℕ, _+_, _-_, _%_, _<_, _≤_}
 use native.Mathlib.Omega.{arith}
 use lib.ListN.{length, getD, set, length-set}
+use lib.Seq.{getD-set-same}
 use borrow.Author.Tests.{not-true, not-false}
 use borrow.Author.Needs.{needs}
 use Rattle.gates.specs.declared.Gate.{Gate}
+use Rattle.gates.specs.Gates.{IsGate}
 use Rattle.tidying.specs.Places.{mayChange}
 use Rattle.tidying.specs.Rules.{fits}
 use Rattle.tidying.specs.Tidying.{gate}
 use Rattle.tidying.specs.Buffers.{gatesIn, isGap}
-use Rattle.tidying.specs.Rows.{Clear, Stops, Known, Low}
+use Rattle.tidying.specs.Rows.{Clear, Stops, Known, Low, Reached}
+use Rattle.tidying.specs.Views.{Marked}
 use Rattle.tidying.proofs.Buffers.{length-gates, gate-in, holds-fits, holds-gate, holds-lines}
-use Rattle.tidying.proofs.Rows.{row-real, row-clear, known-stops, low-next}
-use Rattle.tidying.proofs.Firsts.{clear-run}
+use Rattle.tidying.proofs.Rows.{clear-next, row-real, row-clear, known-stops, reach-others, low-next}
+use Rattle.tidying.proofs.Stretches.{shut-unfit}
 use Rattle.tidying.proofs.scan.find_pair.Statement.{statement}
 use Rattle.tidying.proofs.scan.find_pair.Tie as tie
 
-record Searching (gs : List Gate) (s t : List ℕ) (m i : ℕ) : Type 0 where
+record Searching (gs : List Gate) (s t reach₀ reach marks₀ marks : List ℕ) (m i : ℕ) : Type 0 where
   within : i ≤ m
   known : Known gs t
   low : Low t i
   unsure : i < m → getD t i 0 < 16384
+  reached : Reached t reach m
+  marked : Marked gs marks
   len : length t ≡ length s
+  reach-len : length reach ≡ length reach₀
+  marks-len : length marks ≡ length marks₀
+
+record Walking (gs : List Gate) (marks₀ marks : List ℕ) (i j : ℕ) : Type 0 where
+  clear : Clear gs i j
+  marked : Marked gs marks
+  len : length marks ≡ length marks₀
 
 abbrev Inv-loop : tie.InvT-loop
-Inv-loop b far m from i j₀ g j = Clear (gatesIn b m) i j
+Inv-loop b far reach marks₀ m from i j₀ g marks j = Walking (gatesIn b m) marks₀ marks i j
 
 abbrev μ-loop : tie.MeasureT-loop
-μ-loop b far m from i j₀ g j = m - j
+μ-loop b far reach marks₀ m from i j₀ g marks j = m - j
 
 abbrev Inv-rows : tie.InvT-rows
-Inv-rows b far₀ m from i₀ j₀ far i j = Searching (gatesIn b m) far₀ far m i
+Inv-rows b far₀ reach₀ marks₀ m from i₀ j₀ far reach marks i j = Searching (gatesIn b m) far₀ far reach₀ reach marks₀ marks m i
 
 abbrev μ-rows : tie.MeasureT-rows
-μ-rows b far₀ m from i₀ j₀ far i j = m - i
+μ-rows b far₀ reach₀ marks₀ m from i₀ j₀ far reach marks i j = m - i
 
 -- a place below m is one of a gate
 below : (b : List ℕ) (m q : ℕ) → q < m → q < length (gatesIn b m)
@@ -54,65 +66,80 @@ module _ (s : tie.Start Inv-loop μ-loop Inv-rows μ-rows) where
 
 -- row i
 module _ (c : tie.In-rows Inv-loop μ-loop Inv-rows μ-rows) where
-  row-inside : c .before .rows .i < length (gates (c .before .before .before .before .before .before))
-  row-inside = below (c .before .before .before .before .before .before .args .b .now) (c .before .before .before .before .before .before .args .m) (c .before .rows .i) (c .rows-test .taken)
+  row-inside : c .before .rows .i < length (gates (c .before .before .before .before .before .before .before .before))
+  row-inside = below (c .before .before .before .before .before .before .before .before .args .b .now) (c .before .before .before .before .before .before .before .before .args .m) (c .before .rows .i) (c .rows-test .taken)
 
   room : c .before .rows .i < length (c .before .rows .far)
   room = omega (arith, row-inside, c .before .rows .inv .known .room)
 
-  real : isGap (gate (gates (c .before .before .before .before .before .before)) (c .before .rows .i)) ≡ false
+  real : isGap (gate (gates (c .before .before .before .before .before .before .before .before)) (c .before .rows .i)) ≡ false
   real = row-real _ _ _ (c .before .rows .inv .known .rows _ row-inside) (c .before .rows .inv .unsure (c .rows-test .taken))
+
+  row-gate : IsGate 6 (gate (gates (c .before .before .before .before .before .before .before .before)) (c .before .rows .i))
+  row-gate = holds-gate _ _ (c .before .before .before .before .before .before .before .before .pre .0) _ row-inside .real real
 
 -- the pair i, j
 module _ (c : tie.In-loop Inv-loop μ-loop Inv-rows μ-rows) where
-  place-inside : c .before .loop .j < length (gates (c .before .before .before .before .before .before .before .before .before .before))
-  place-inside = below (c .before .before .before .before .before .before .before .before .before .before .args .b .now) (c .before .before .before .before .before .before .before .before .before .before .args .m) (c .before .loop .j) (c .loop-test .taken)
+  place-inside : c .before .loop .j < length (gates (c .before .before .before .before .before .before .before .before .before .before .before .before))
+  place-inside = below (c .before .before .before .before .before .before .before .before .before .before .before .before .args .b .now) (c .before .before .before .before .before .before .before .before .before .before .before .before .args .m) (c .before .loop .j) (c .loop-test .taken)
 
 module _ (c : tie.After-read-gate2 Inv-loop μ-loop Inv-rows μ-rows) where
-  first-is : c .before .before .before .before .read-gate .result ≡ gate (gates (c .before .before .before .before .before .before .before .before .before .before .before)) (c .before .before .before .before .before .before .rows .i)
-  first-is = c .before .before .before .before .read-gate .ensures ∙ sym (gate-in (c .before .before .before .before .before .before .before .before .before .before .before .args .b .now) (c .before .before .before .before .before .before .before .before .before .before .before .args .m) (c .before .before .before .before .before .before .rows .i) (c .before .before .before .before .before .rows-test .taken))
+  first-is : c .before .before .before .before .read-gate .result ≡ gate (gates (c .before .before .before .before .before .before .before .before .before .before .before .before .before)) (c .before .before .before .before .before .before .rows .i)
+  first-is = c .before .before .before .before .read-gate .ensures ∙ sym (gate-in (c .before .before .before .before .before .before .before .before .before .before .before .before .before .args .b .now) (c .before .before .before .before .before .before .before .before .before .before .before .before .before .args .m) (c .before .before .before .before .before .before .rows .i) (c .before .before .before .before .before .rows-test .taken))
 
-  second-is : c .read-gate2 .result ≡ gate (gates (c .before .before .before .before .before .before .before .before .before .before .before)) (c .before .before .loop .j)
-  second-is = c .read-gate2 .ensures ∙ sym (gate-in (c .before .before .before .before .before .before .before .before .before .before .before .args .b .now) (c .before .before .before .before .before .before .before .before .before .before .before .args .m) (c .before .before .loop .j) (c .before .loop-test .taken))
-
-module _ (c : tie.After-fits-pair Inv-loop μ-loop Inv-rows μ-rows) where
-  fits-is : fits (gate (gates (c .before .before .before .before .before .before .before .before .before .before .before .before)) (c .before .before .before .before .before .before .before .rows .i)) (gate (gates (c .before .before .before .before .before .before .before .before .before .before .before .before)) (c .before .before .before .loop .j)) ≡ c .fits-pair .result
-  fits-is = ap₂ fits (sym (first-is (c .before))) (sym (second-is (c .before))) ∙ sym (c .fits-pair .ensures)
+  second-is : c .read-gate2 .result ≡ gate (gates (c .before .before .before .before .before .before .before .before .before .before .before .before .before)) (c .before .before .loop .j)
+  second-is = c .read-gate2 .ensures ∙ sym (gate-in (c .before .before .before .before .before .before .before .before .before .before .before .before .before .args .b .now) (c .before .before .before .before .before .before .before .before .before .before .before .before .before .args .m) (c .before .before .loop .j) (c .before .loop-test .taken))
 
 module _ (c : tie.After-may-change Inv-loop μ-loop Inv-rows μ-rows) where
-  may-is : mayChange (gate (gates (c .before .before .before .before .before .before .before .before .before .before .before .before .before .before)) (c .before .before .before .before .before .before .before .before .before .rows .i)) (gate (gates (c .before .before .before .before .before .before .before .before .before .before .before .before .before .before)) (c .before .before .before .before .before .loop .j)) ≡ c .may-change .result
-  may-is = ap₂ mayChange (sym (first-is (c .before .before .before))) (sym (second-is (c .before .before .before))) ∙ sym (c .may-change .ensures)
+  may-is : mayChange (gate (gates (c .before .before .before .before .before .before .before .before .before .before .before .before .before .before)) (c .before .before .before .before .before .before .before .rows .i)) (gate (gates (c .before .before .before .before .before .before .before .before .before .before .before .before .before .before)) (c .before .before .before .loop .j)) ≡ c .may-change .result
+  may-is = ap₂ mayChange (sym (first-is (c .before))) (sym (second-is (c .before))) ∙ sym (c .may-change .ensures)
+
+module _ (c : tie.After-fits-pair Inv-loop μ-loop Inv-rows μ-rows) where
+  fits-is : fits (gate (gates (c .before .before .before .before .before .before .before .before .before .before .before .before .before .before .before .before)) (c .before .before .before .before .before .before .before .before .before .rows .i)) (gate (gates (c .before .before .before .before .before .before .before .before .before .before .before .before .before .before .before .before)) (c .before .before .before .before .before .loop .j)) ≡ c .fits-pair .result
+  fits-is = ap₂ fits (sym (first-is (c .before .before .before))) (sym (second-is (c .before .before .before))) ∙ sym (c .fits-pair .ensures)
 
 -- row i has no pair, and says so
 module _ (c : tie.Left-loop Inv-loop μ-loop Inv-rows μ-rows) where
-  stops : Stops (gates (c .before .before .before .before .before .before .before .before .before .before)) (c .before .before .before .before .before .rows .i) (c .before .loop .j)
+  stops : Stops (gates (c .before .before .before .before .before .before .before .before .before .before .before .before)) (c .before .before .before .before .before .rows .i) (c .before .loop .j)
   stops =
       ⊎-elim
       (λ w.
       let end = w .left in
-      record { unfit = λ l. absurd (omega (arith, count (c .before .before .before .before .before .before .before .before .before .before))); shut = λ l. absurd (omega (arith, count (c .before .before .before .before .before .before .before .before .before .before))) })
+      record { unfit = λ l. absurd (omega (arith, count (c .before .before .before .before .before .before .before .before .before .before .before .before))); shut = λ l. absurd (omega (arith, count (c .before .before .before .before .before .before .before .before .before .before .before .before))) })
       (λ w.
-      let pair : tie.After-read-gate2 Inv-loop μ-loop Inv-rows μ-rows = record { before = record { before = c .before; loop-test = w .0 }; read-gate2 = w .1 } in
-      let fit : tie.After-fits-pair Inv-loop μ-loop Inv-rows μ-rows = record { before = pair; fits-pair = w .2 } in
-      let may : tie.After-may-change Inv-loop μ-loop Inv-rows μ-rows = record { before = record { before = fit; if1 = w .3 }; may-change = w .4 } in
-      record { unfit = λ l. fits-is fit ∙ w .3 .left; shut = λ l. may-is may ∙ not-true _ (w .5 .taken) })
+      let inner : tie.In-loop Inv-loop μ-loop Inv-rows μ-rows = record { before = c .before; loop-test = w .0 } in
+      let pair : tie.After-read-gate2 Inv-loop μ-loop Inv-rows μ-rows = record { before = inner; read-gate2 = w .1 } in
+      let may : tie.After-may-change Inv-loop μ-loop Inv-rows μ-rows = record { before = pair; may-change = w .2 } in
+      let shut : mayChange (gate (gates (c .before .before .before .before .before .before .before .before .before .before .before .before)) (c .before .before .before .before .before .rows .i)) (gate (gates (c .before .before .before .before .before .before .before .before .before .before .before .before)) (c .before .loop .j)) ≡ false = may-is may ∙ not-true _ (w .3 .taken) in
+      record { unfit = λ l. shut-unfit _ _ (row-gate (c .before .before .before .before)) (holds-gate _ _ (c .before .before .before .before .before .before .before .before .before .before .before .before .pre .0) _ l) shut; shut = λ l. shut })
       (c .loop-test .came)
 
-  stopped : Known (gates (c .before .before .before .before .before .before .before .before .before .before)) (set (c .before .before .before .before .before .rows .far) (c .before .before .before .before .before .rows .i) (c .before .loop .j + 16384))
+  stopped : Known (gates (c .before .before .before .before .before .before .before .before .before .before .before .before)) (set (c .before .before .before .before .before .rows .far) (c .before .before .before .before .before .rows .i) (c .before .loop .j + 16384))
   stopped =
-      known-stops _ _ _ _ (row-inside (c .before .before .before .before)) (omega (arith, count (c .before .before .before .before .before .before .before .before .before .before), c .before .before .before .before .before .before .before .before .before .before .pre .1)) (c .before .before .before .before .before .rows .inv .known) (real (c .before .before .before .before)) (c .before .loop .inv) stops
+      known-stops _ _ _ _ (row-inside (c .before .before .before .before)) (omega (arith, count (c .before .before .before .before .before .before .before .before .before .before .before .before), c .before .before .before .before .before .before .before .before .before .before .before .before .pre .1 .0)) (c .before .before .before .before .before .rows .inv .known) (real (c .before .before .before .before)) (c .before .loop .inv .clear) stops
 
   near : c .before .loop .j ≤ 8000
-  near = omega (arith, count (c .before .before .before .before .before .before .before .before .before .before), c .before .before .before .before .before .before .before .before .before .before .pre .1, c .before .loop .inv .inside)
+  near = omega (arith, count (c .before .before .before .before .before .before .before .before .before .before .before .before), c .before .before .before .before .before .before .before .before .before .before .before .before .pre .1 .0, c .before .loop .inv .clear .inside)
 
 next-row-requires : tie.Need-next-row-requires Inv-loop μ-loop Inv-rows μ-rows
-next-row-requires c κs = (c .before .before .before .pre .1 .0, omega (arith, count (c .before .before .before), c .before .before .before .pre .1 .2 .room), c .before .before .before .pre .1 .3)
+next-row-requires c κs = (c .before .before .before .before .before .pre .1 .0 .0, omega (arith, count (c .before .before .before .before .before), c .before .before .before .before .before .pre .1 .0 .2 .room), c .before .before .before .before .before .pre .1 .0 .3)
 
 rows-holds : tie.Need-rows-holds Inv-loop μ-loop Inv-rows μ-rows
-rows-holds c = record { within = c .next-row .ensures .1; known = c .before .before .before .before .pre .1 .2; low = c .next-row .ensures .2; unsure = c .next-row .ensures .3; len = refl }
+rows-holds c =
+    record {
+      within = c .next-row .ensures .1;
+      known = c .before .before .before .before .before .before .pre .1 .0 .2;
+      low = c .next-row .ensures .2;
+      unsure = c .next-row .ensures .3;
+      reached = c .before .before .before .before .before .before .pre .1 .1 .0;
+      marked = c .before .before .before .before .before .before .pre .1 .1 .1;
+      len = refl;
+      reach-len = refl;
+      marks-len = refl;
+    }
 
 read-gate-requires : tie.Need-read-gate-requires Inv-loop μ-loop Inv-rows μ-rows
-read-gate-requires c κs = (holds-fits _ _ (c .before .before .before .before .before .before .pre .0) _ (row-inside c), holds-lines _ _ (c .before .before .before .before .before .before .pre .0) _ (row-inside c))
+read-gate-requires c κs = (holds-fits _ _ (c .before .before .before .before .before .before .before .before .pre .0) _ (row-inside c), holds-lines _ _ (c .before .before .before .before .before .before .before .before .pre .0) _ (row-inside c))
 
 mul-j : tie.Need-mul-j Inv-loop μ-loop Inv-rows μ-rows
 mul-j c = search needs
@@ -124,37 +151,41 @@ cast-j : tie.Need-cast-j Inv-loop μ-loop Inv-rows μ-rows
 cast-j c = omega (arith, c .before .before .before .rows .inv .unsure (c .before .before .rows-test .taken))
 
 loop-holds : tie.Need-loop-holds Inv-loop μ-loop Inv-rows μ-rows
-loop-holds c = row-clear _ _ _ (c .before .before .before .rows .inv .known .rows _ (row-inside (c .before .before))) (c .before .before .before .rows .inv .unsure (c .before .before .rows-test .taken))
+loop-holds c =
+    record {
+      clear = row-clear _ _ _ (c .before .before .before .rows .inv .known .rows _ (row-inside (c .before .before))) (c .before .before .before .rows .inv .unsure (c .before .before .rows-test .taken));
+      marked = c .before .before .before .rows .inv .marked;
+      len = refl;
+    }
 
 read-gate-requires-2 : tie.Need-read-gate-requires-2 Inv-loop μ-loop Inv-rows μ-rows
-read-gate-requires-2 c κs = (holds-fits _ _ (c .before .before .before .before .before .before .before .before .before .before .pre .0) _ (place-inside c), holds-lines _ _ (c .before .before .before .before .before .before .before .before .before .before .pre .0) _ (place-inside c))
+read-gate-requires-2 c κs = (holds-fits _ _ (c .before .before .before .before .before .before .before .before .before .before .before .before .pre .0) _ (place-inside c), holds-lines _ _ (c .before .before .before .before .before .before .before .before .before .before .before .before .pre .0) _ (place-inside c))
+
+may-change-requires : tie.Need-may-change-requires Inv-loop μ-loop Inv-rows μ-rows
+may-change-requires c κs =
+    let ok-i = holds-gate _ _ (c .before .before .before .before .before .before .before .before .before .before .before .before .before .pre .0) _ (row-inside (c .before .before .before .before .before)) in
+    let ok-j = holds-gate _ _ (c .before .before .before .before .before .before .before .before .before .before .before .before .before .pre .0) _ (place-inside (c .before)) in (
+      (rw (first-is c) (omega (arith, ok-i .op-high)), rw (first-is c) (omega (arith, ok-i .on-line))),
+      (rw (second-is c) (omega (arith, ok-j .op-high)), rw (second-is c) (omega (arith, ok-j .on-line))),
+    )
 
 fits-pair-requires : tie.Need-fits-pair-requires Inv-loop μ-loop Inv-rows μ-rows
 fits-pair-requires c κs = search needs
 
-may-change-requires : tie.Need-may-change-requires Inv-loop μ-loop Inv-rows μ-rows
-may-change-requires c κs =
-    let ok-i = holds-gate _ _ (c .before .before .before .before .before .before .before .before .before .before .before .before .before .pre .0) _ (row-inside (c .before .before .before .before .before .before .before)) in
-    let ok-j = holds-gate _ _ (c .before .before .before .before .before .before .before .before .before .before .before .before .before .pre .0) _ (place-inside (c .before .before .before)) in (
-      (rw (first-is (c .before .before)) (omega (arith, ok-i .op-high)), rw (first-is (c .before .before)) (omega (arith, ok-i .on-line))),
-      (rw (second-is (c .before .before)) (omega (arith, ok-j .op-high)), rw (second-is (c .before .before)) (omega (arith, ok-j .on-line))),
-    )
+add-pass-stretches : tie.Need-add-pass-stretches Inv-loop μ-loop Inv-rows μ-rows
+add-pass-stretches c = omega (arith, c .before .before .before .before .before .before .loop-test .taken, c .before .before .before .before .before .before .before .before .before .before .before .before .before .before .before .before .before .before .pre .1 .0)
 
-passed-run-requires : tie.Need-passed-run-requires Inv-loop μ-loop Inv-rows μ-rows
-passed-run-requires c κs = (c .before .before .before .before .before .before .loop-test .taken, omega (arith, count (c .before .before .before .before .before .before .before .before .before .before .before .before .before .before .before .before), c .before .before .before .before .before .before .before .before .before .before .before .rows .inv .known .room))
-
-add-j : tie.Need-add-j Inv-loop μ-loop Inv-rows μ-rows
-add-j c = omega (arith, c .passed-run .ensures)
+pass-stretches-requires : tie.Need-pass-stretches-requires Inv-loop μ-loop Inv-rows μ-rows
+pass-stretches-requires c κs = (
+  (c .before .before .before .before .before .before .before .before .before .before .before .before .before .before .before .before .before .before .pre .0, c .before .before .before .before .before .before .before .loop .inv .marked, c .before .before .before .before .before .before .before .before .before .before .before .before .before .before .before .before .before .before .pre .1 .0 .1),
+  (real (c .before .before .before .before .before .before .before .before .before .before), clear-next _ _ _ (c .before .before .before .before .before .before .before .loop .inv .clear) (place-inside (c .before .before .before .before .before .before)) (fits-is (c .before .before) ∙ c .before .if2 .left) (may-is (c .before .before .before .before) ∙ not-false _ (c .before .before .before .if1 .left))),
+)
 
 loop-less : tie.Need-loop-less Inv-loop μ-loop Inv-rows μ-rows
-loop-less c = omega (arith, c .passed-run .ensures)
+loop-less c = omega (arith, c .before .before .pass-stretches .ensures .1 .0, c .before .before .before .before .before .before .before .before .before .loop-test .taken)
 
 loop-again : tie.Need-loop-again Inv-loop μ-loop Inv-rows μ-rows
-loop-again c =
-    let s = c .before .before .before .before .before .before .before .before .before .before .before .before .before .before .before .before .before in
-    let e = c .before .before in
-    clear-run _ _ _ _ _ (s .pre .0 .gates) (c .before .before .before .before .before .before .before .before .before .before .before .before .rows .inv .known) (c .before .before .before .before .before .before .before .before .loop .inv) (real (c .before .before .before .before .before .before .before .before .before .before .before)) (place-inside (c .before .before .before .before .before .before .before)) (fits-is (e .before .before .before) ∙ e .before .before .if1 .left) (may-is (e .before) ∙ not-false _ (e .if2 .left))
-    (omega (arith, count s, c .passed-run .ensures .1)) (c .passed-run .ensures .2)
+loop-again c = record { clear = c .before .before .pass-stretches .ensures .1 .1; marked = c .before .before .pass-stretches .ensures .0; len = c .before .marks .given ∙ c .before .before .before .before .before .before .before .before .before .before .loop .inv .len }
 
 cast-far : tie.Need-cast-far Inv-loop μ-loop Inv-rows μ-rows
 cast-far c = omega (arith, near c)
@@ -168,14 +199,30 @@ mul-far c = search needs
 slice-write-far : tie.Need-slice-write-far Inv-loop μ-loop Inv-rows μ-rows
 slice-write-far c = room (c .before .before .before .before)
 
+cast-raise-reach : tie.Need-cast-raise-reach Inv-loop μ-loop Inv-rows μ-rows
+cast-raise-reach c = omega (arith, near (c .before .before))
+
+raise-reach-requires : tie.Need-raise-reach-requires Inv-loop μ-loop Inv-rows μ-rows
+raise-reach-requires c κs =
+    let small : (c .before .before .before .loop .j + 16384) % 16384 ≤ c .before .before .before .loop .j = omega (arith, near (c .before .before)) in (
+      (
+        c .before .before .before .before .before .before .rows-test .taken,
+        c .before .before .before .before .before .before .before .before .before .before .before .before .before .before .pre .1 .0 .1,
+        omega (arith, near (c .before .before)),
+        rw (getD-set-same (c .before .before .before .before .before .before .before .rows .far) (c .before .before .before .before .before .before .before .rows .i) (c .before .before .before .loop .j + 16384) 0 (room (c .before .before .before .before .before .before))) small,
+        c .before .before .before .before .before .before .before .rows .inv .reached .room,
+      ),
+      reach-others (c .before .before .before .before .before .before .before .rows .far) (c .before .before .before .before .before .before .before .rows .reach) (c .before .before .before .before .before .before .before .before .before .before .before .before .before .before .args .m) (c .before .before .before .before .before .before .before .rows .i) (c .before .before .before .loop .j + 16384) (c .before .before .before .before .before .before .before .rows .inv .reached),
+    )
+
 add-next-row : tie.Need-add-next-row Inv-loop μ-loop Inv-rows μ-rows
 add-next-row c = search needs
 
 next-row-requires-2 : tie.Need-next-row-requires-2 Inv-loop μ-loop Inv-rows μ-rows
 next-row-requires-2 c κs = (
-  omega (arith, c .before .before .before .before .before .rows-test .taken),
-  omega (arith, count (c .before .before .before .before .before .before .before .before .before .before .before), stopped (c .before) .room),
-  low-next (c .before .before .before .before .before .before .rows .far) (c .before .before .before .before .before .before .rows .i) (c .before .before .loop .j + 16384) (room (c .before .before .before .before .before)) (c .before .before .before .before .before .before .rows .inv .low) (omega arith),
+  omega (arith, c .before .before .before .before .before .before .before .before .before .before .rows-test .taken),
+  omega (arith, count (c .before .before .before .before .before .before .before .before .before .before .before .before .before .before .before .before .before .before), stopped (c .before .before .before .before .before .before) .room),
+  low-next (c .before .before .before .before .before .before .before .before .before .before .before .rows .far) (c .before .before .before .before .before .before .before .before .before .before .before .rows .i) (c .before .before .before .before .before .before .before .loop .j + 16384) (room (c .before .before .before .before .before .before .before .before .before .before)) (c .before .before .before .before .before .before .before .before .before .before .before .rows .inv .low) (omega arith),
 )
 
 rows-less : tie.Need-rows-less Inv-loop μ-loop Inv-rows μ-rows
@@ -185,41 +232,57 @@ rows-again : tie.Need-rows-again Inv-loop μ-loop Inv-rows μ-rows
 rows-again c =
     record {
       within = c .next-row2 .ensures .1;
-      known = stopped (c .before .before);
+      known = stopped (c .before .before .before .before .before .before .before);
       low = c .next-row2 .ensures .2;
       unsure = c .next-row2 .ensures .3;
-      len = simp length-set (c .before .before .before .before .before .before .before .rows .inv .len);
+      reached = c .before .before .before .before .raise-reach .ensures;
+      marked = c .before .before .before .before .before .before .before .before .loop .inv .marked;
+      len = simp length-set (c .before .before .before .before .before .before .before .before .before .before .before .before .rows .inv .len);
+      reach-len = c .before .before .before .reach .given ∙ c .before .before .before .before .before .before .before .before .before .before .before .before .rows .inv .reach-len;
+      marks-len = c .before .before .before .before .before .before .before .before .loop .inv .len ∙ c .before .before .before .before .before .before .before .before .before .before .before .before .rows .inv .marks-len;
     }
 
 same-length : tie.Need-same-length Inv-loop μ-loop Inv-rows μ-rows
 same-length c = c .before .rows .inv .len
 
+same-length-2 : tie.Need-same-length-2 Inv-loop μ-loop Inv-rows μ-rows
+same-length-2 c = c .before .rows .inv .reach-len
+
+same-length-3 : tie.Need-same-length-3 Inv-loop μ-loop Inv-rows μ-rows
+same-length-3 c = c .before .rows .inv .marks-len
+
 returns : tie.Need-returns Inv-loop μ-loop Inv-rows μ-rows
 returns c =
     let end = c .rows-test .left in (
       record {
-        within = omega (arith, count (c .before .before .before .before .before .before), c .before .rows .inv .within);
-        gate-i = λ l. absurd (omega (arith, count (c .before .before .before .before .before .before)));
-        clear = λ l. absurd (omega (arith, count (c .before .before .before .before .before .before)));
-        inside = λ l. absurd (omega (arith, count (c .before .before .before .before .before .before)));
-        fit = λ l. absurd (omega (arith, count (c .before .before .before .before .before .before)));
+        within = omega (arith, count (c .before .before .before .before .before .before .before .before), c .before .rows .inv .within);
+        gate-i = λ l. absurd (omega (arith, count (c .before .before .before .before .before .before .before .before)));
+        clear = λ l. absurd (omega (arith, count (c .before .before .before .before .before .before .before .before)));
+        inside = λ l. absurd (omega (arith, count (c .before .before .before .before .before .before .before .before)));
+        fit = λ l. absurd (omega (arith, count (c .before .before .before .before .before .before .before .before)));
       },
-      (c .before .rows .inv .known, c .before .rows .inv .low),
+      ((c .before .rows .inv .known, c .before .rows .inv .low), (c .before .rows .inv .reached, c .before .rows .inv .marked)),
     )
 
-same-length-2 : tie.Need-same-length-2 Inv-loop μ-loop Inv-rows μ-rows
-same-length-2 c = c .before .before .before .before .before .before .before .before .rows .inv .len
+same-length-4 : tie.Need-same-length-4 Inv-loop μ-loop Inv-rows μ-rows
+same-length-4 c = c .before .before .before .before .before .before .before .before .before .before .rows .inv .len
+
+same-length-5 : tie.Need-same-length-5 Inv-loop μ-loop Inv-rows μ-rows
+same-length-5 c = c .before .before .before .before .before .before .before .before .before .before .rows .inv .reach-len
+
+same-length-6 : tie.Need-same-length-6 Inv-loop μ-loop Inv-rows μ-rows
+same-length-6 c = c .before .before .before .before .before .before .loop .inv .len ∙ c .before .before .before .before .before .before .before .before .before .before .rows .inv .marks-len
 
 returns-2 : tie.Need-returns-2 Inv-loop μ-loop Inv-rows μ-rows
 returns-2 c = (
   record {
-    within = omega (arith, row-inside (c .before .before .before .before .before .before .before));
-    gate-i = λ l. real (c .before .before .before .before .before .before .before);
-    clear = λ l. c .before .before .before .before .loop .inv;
-    inside = λ l. place-inside (c .before .before .before);
-    fit = λ l. fits-is (c .before) ∙ c .if1 .taken;
+    within = omega (arith, row-inside (c .before .before .before .before .before .before .before .before .before));
+    gate-i = λ l. real (c .before .before .before .before .before .before .before .before .before);
+    clear = λ l. c .before .before .before .before .before .before .loop .inv .clear;
+    inside = λ l. place-inside (c .before .before .before .before .before);
+    fit = λ l. fits-is (c .before) ∙ c .if2 .taken;
   },
-  (c .before .before .before .before .before .before .before .before .rows .inv .known, c .before .before .before .before .before .before .before .before .rows .inv .low),
+  ((c .before .before .before .before .before .before .before .before .before .before .rows .inv .known, c .before .before .before .before .before .before .before .before .before .before .rows .inv .low), (c .before .before .before .before .before .before .before .before .before .before .rows .inv .reached, c .before .before .before .before .before .before .loop .inv .marked)),
 )
 
 pub find-pair-spec : {M : Type 1} → statement M
@@ -238,21 +301,27 @@ find-pair-spec =
     cast-j
     loop-holds
     read-gate-requires-2
-    fits-pair-requires
     may-change-requires
-    passed-run-requires
-    add-j
+    fits-pair-requires
+    add-pass-stretches
+    pass-stretches-requires
     loop-less
     loop-again
     cast-far
     add-far
     mul-far
     slice-write-far
+    cast-raise-reach
+    raise-reach-requires
     add-next-row
     next-row-requires-2
     rows-less
     rows-again
     same-length
-    returns
     same-length-2
+    same-length-3
+    returns
+    same-length-4
+    same-length-5
+    same-length-6
     returns-2)

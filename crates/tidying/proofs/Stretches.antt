@@ -1,0 +1,477 @@
+-- Views: a gate that meets nothing of the views and the kinds of many gates is quiet with each of them (`quiet-seen`), and what is known of stretches stays true
+-- where a gate is replaced. What is finite is computed. Assumes nothing.
+use mathlib.Core.Path.{_≡_, refl, sym, ap, ap₂, _∙_, subst}
+use mathlib.Core.Logic.{⊎-elim}
+use mathlib.Core.Bool.{Bool, true, false, cond, not, _&&_, _||_}
+use mathlib.Core.List.{List, _++_}
+use Prim.Native.Nat.{ℕ, zero, suc, _+_, _-_, _*_, _/_, _%_, _^_, _<_, _≤_, min, max}
+use native.Mathlib.Nat.{zero-mul, add-zero, le-trans, mul-le-mul-left}
+use native.Mathlib.Decide.{ℕ-discrete}
+use native.Mathlib.Omega.{arith}
+use lib.Arith.{bin-ind}
+use lib.Bits.{bitAnd, bitOr, and-step, or-step, or-shr, and-zero-l, or-zero-l, and-comm, and-self, and-mask}
+use lib.Dec.{eqb, ltb, leb}
+use lib.ListN.{length, getD, set, drop, length-set, length-append, length-drop}
+use lib.Seq.{getD-set-same, getD-set-other}
+use borrow.Author.Tests.{eqb-true, eq-eqb, ne-eqb, ltb-true, leb-true, not-true}
+use Rattle.ranges.specs.Ranges.{every, sum, span}
+use Rattle.ranges.specs.Lists.{Each}
+use Rattle.ranges.proofs.Bools.{decide, clash}
+use Rattle.ranges.proofs.Tests.{every-below}
+use Rattle.ranges.proofs.Triples.{if-so}
+use Rattle.ranges.proofs.Lists.{each-at}
+use Rattle.ranges.proofs.Spans.{length-span}
+use Rattle.ranges.proofs.Changes.{filled-at}
+use Rattle.digits.specs.Digits.{digit, put, pack}
+use Rattle.digits.proofs.Digits.{digit-zero, put-value, digit-put-same, digit-put-other, digit-lt}
+use Rattle.digits.proofs.Packs.{pack-ext, pack-digits, pack-lt, digit-pack}
+use Rattle.digits.proofs.Bits.{digit-and, digit-of-zero}
+use Rattle.gates.specs.declared.Gate.{Gate}
+use Rattle.gates.specs.Gates.{control, inverseOp, IsGate}
+use Rattle.gates.specs.Words.{byte, gateOf, Low, controlMarks, otherMarks}
+use Rattle.gates.proofs.Bytes.{byte-one, byte-high}
+use Rattle.gates.proofs.Marks.{control-word}
+use Rattle.tidying.specs.Places.{isC, sameType, upsets, blocks, clashes, mayChange}
+use Rattle.tidying.specs.Rules.{sameLines, differences, cancels, merges, reduces, fits}
+use Rattle.tidying.specs.Tidying.{gate}
+use Rattle.tidying.specs.Buffers.{isGap, Stands}
+use Rattle.tidying.specs.Rows.{Quiet, Clear}
+use Rattle.tidying.specs.Views.{upsetters, shunned, ownPart, viewOf, otherPart, againstOf, folded, kindOf, Passed, Marked}
+use Rattle.tidying.proofs.Rules.{same-target, both-or-none}
+use Rattle.tidying.proofs.Gaps.{by-place, gate-real}
+use Rattle.tidying.proofs.Firsts.{gap-passed, gap-unfit}
+
+-- ---- sets put together
+
+bit-max : (a b : ℕ) → a < 2 → b < 2 → max a b < 2
+bit-max zero zero la lb = omega arith
+bit-max zero (suc zero) la lb = omega arith
+bit-max (suc zero) zero la lb = omega arith
+bit-max (suc zero) (suc zero) la lb = omega arith
+bit-max (suc (suc a)) b la lb = absurd (omega arith)
+bit-max zero (suc (suc b)) la lb = absurd (omega arith)
+bit-max (suc zero) (suc (suc b)) la lb = absurd (omega arith)
+
+bit-meets : (a b c : ℕ) → a < 2 → b < 2 → min (max a b) c ≡ 0 → (min a c ≡ 0) × (min b c ≡ 0)
+bit-meets zero zero c la lb e = (e, e)
+bit-meets zero (suc zero) zero la lb e = (refl, refl)
+bit-meets zero (suc zero) (suc c) la lb e = absurd (omega arith)
+bit-meets (suc zero) zero zero la lb e = (refl, refl)
+bit-meets (suc zero) zero (suc c) la lb e = absurd (omega arith)
+bit-meets (suc zero) (suc zero) c la lb e = (e, e)
+bit-meets (suc (suc a)) b c la lb e = absurd (omega arith)
+bit-meets zero (suc (suc b)) c la lb e = absurd (omega arith)
+bit-meets (suc zero) (suc (suc b)) c la lb e = absurd (omega arith)
+
+-- what meets nothing of two sets put together meets nothing of either
+or-meets : (u w x : ℕ) → bitAnd (bitOr u w) x ≡ 0 → (bitAnd u x ≡ 0) × (bitAnd w x ≡ 0)
+or-meets = bin-ind (λ u. (w x : ℕ) → bitAnd (bitOr u w) x ≡ 0 → (bitAnd u x ≡ 0) × (bitAnd w x ≡ 0)) (λ w x e. (and-zero-l x, e)) step
+  where
+    step : (u : ℕ) → ((w x : ℕ) → bitAnd (bitOr (u / 2) w) x ≡ 0 → (bitAnd (u / 2) x ≡ 0) × (bitAnd w x ≡ 0)) → (w x : ℕ) → bitAnd (bitOr u w) x ≡ 0
+        → (bitAnd u x ≡ 0) × (bitAnd w x ≡ 0)
+    step u ih w x e =
+        let half : bitOr u w / 2 ≡ bitOr (u / 2) (w / 2) = or-shr u w 1 in
+        let odd : bitOr u w % 2 ≡ max (u % 2) (w % 2) = omega (arith, or-step u w, bit-max (u % 2) (w % 2) (omega arith) (omega arith)) in
+        let parts : bitAnd (bitOr (u / 2) (w / 2)) (x / 2) * 2 + min (max (u % 2) (w % 2)) (x % 2) ≡ 0 = rw (half, odd) at (sym (and-step (bitOr u w) x) ∙ e) in
+        let high = ih (w / 2) (x / 2) (omega arith) in
+        let low = bit-meets (u % 2) (w % 2) (x % 2) (omega arith) (omega arith) (omega arith) in
+        (omega (arith, and-step u x, high .0, low .0), omega (arith, and-step w x, high .1, low .1))
+
+-- ---- the bytes of a view
+
+six-times : (f : ℕ → ℕ) → 16 * pack 256 f 6 ≡ pack 256 (λ k. 16 * f k) 6
+unfolding pack sum
+six-times f = omega arith
+
+-- six bytes of which that of line t is 0, with d there
+module _ (f : ℕ → ℕ) (small : (k : ℕ) → k < 6 → f k < 256) (t d : ℕ) (lt : t < 6) (free : f t ≡ 0) (ld : d < 256) where
+  as-put : pack 256 f 6 + d * 256 ^ t ≡ put 256 t (pack 256 f 6) d
+  as-put =
+      let none : digit 256 t (pack 256 f 6) ≡ 0 = digit-pack 256 f 6 small t lt ∙ free in
+      sym (put-value 256 t (pack 256 f 6) d)
+      ∙ ap (λ (y : ℕ). put 256 t (pack 256 f 6) d + y * 256 ^ t) none
+      ∙ ap (λ (y : ℕ). put 256 t (pack 256 f 6) d + y) (zero-mul (256 ^ t))
+      ∙ add-zero (put 256 t (pack 256 f 6) d)
+
+  byte-there : digit 256 t (pack 256 f 6 + d * 256 ^ t) ≡ d
+  byte-there = ap (digit 256 t) as-put ∙ digit-put-same 256 t (pack 256 f 6) d ld
+
+  byte-else : (k : ℕ) → k < 6 → (k ≡ t → ⊥) → digit 256 k (pack 256 f 6 + d * 256 ^ t) ≡ f k
+  byte-else k lk ne = ap (digit 256 k) as-put ∙ digit-put-other 256 k t (pack 256 f 6) d ld ne ∙ digit-pack 256 f 6 small k lk
+
+upsetters-lt : (c : ℕ) → c < 4 → upsetters c < 16
+unfolding upsetters every
+upsetters-lt c lt = ltb-true _ _ (every-below (λ c. ltb (upsetters c) 16) 4 refl c lt)
+
+-- parts of gates, of which operator 0 is none
+pub own-lt : (o : ℕ) → ownPart o < 256
+unfolding ownPart
+own-lt o = go (eqb o 0) (isC o) (eqb o 3) (eqb o 4)
+  where
+    go : (a b c d : Bool) → cond a 0 (cond b 135 (cond c 30 (cond d 75 45))) < 256
+    go true b c d = omega arith
+    go false true c d = omega arith
+    go false false true d = omega arith
+    go false false false true = omega arith
+    go false false false false = omega arith
+
+pub other-lt : (o : ℕ) → otherPart o < 256
+unfolding otherPart
+other-lt o = go (isC o) (eqb o 3) (eqb o 4)
+  where
+    go : (b c d : Bool) → cond b 120 (cond c 225 (cond d 180 210)) < 256
+    go true c d = omega arith
+    go false true d = omega arith
+    go false false true = omega arith
+    go false false false = omega arith
+
+module _ (g : Gate) (ok : IsGate 6 g) where
+  line-lt : (k : ℕ) → control g k < 4
+  line-lt k = digit-lt 4 k (g .controls) (omega arith)
+
+  bare : upsetters (control g (g .target)) ≡ 0
+  unfolding upsetters
+  bare = rw (ok .own) refl
+
+  view-own : digit 256 (g .target) (viewOf g) ≡ ownPart (g .operator)
+  unfolding viewOf shunned
+  view-own = byte-there (λ k. upsetters (control g k)) (λ k l. omega (arith, upsetters-lt (control g k) (line-lt k))) (g .target) (ownPart (g .operator)) (ok .on-line) bare (own-lt (g .operator))
+
+  view-line : (k : ℕ) → k < 6 → (k ≡ g .target → ⊥) → digit 256 k (viewOf g) ≡ upsetters (control g k)
+  unfolding viewOf shunned
+  view-line = byte-else (λ k. upsetters (control g k)) (λ k l. omega (arith, upsetters-lt (control g k) (line-lt k))) (g .target) (ownPart (g .operator)) (ok .on-line) bare (own-lt (g .operator))
+
+  against-is : againstOf g ≡ pack 256 (λ k. 16 * upsetters (control g k)) 6 + otherPart (g .operator) * 256 ^ g .target
+  unfolding againstOf shunned
+  against-is = ap (λ (y : ℕ). y + otherPart (g .operator) * 256 ^ g .target) (six-times (λ k. upsetters (control g k)))
+
+  against-own : digit 256 (g .target) (againstOf g) ≡ otherPart (g .operator)
+  against-own =
+      ap (digit 256 (g .target)) against-is
+      ∙ byte-there (λ k. 16 * upsetters (control g k)) (λ k l. omega (arith, upsetters-lt (control g k) (line-lt k))) (g .target) (otherPart (g .operator)) (ok .on-line) (omega (arith, bare)) (other-lt (g .operator))
+
+  against-line : (k : ℕ) → k < 6 → (k ≡ g .target → ⊥) → digit 256 k (againstOf g) ≡ 16 * upsetters (control g k)
+  against-line k lk ne =
+      ap (digit 256 k) against-is
+      ∙ byte-else (λ k. 16 * upsetters (control g k)) (λ k l. omega (arith, upsetters-lt (control g k) (line-lt k))) (g .target) (otherPart (g .operator)) (ok .on-line) (omega (arith, bare)) (other-lt (g .operator)) k lk ne
+
+-- ---- what two bytes that do not meet say
+
+types-test : ℕ → ℕ → Bool
+types-test a b = cond (eqb (bitAnd (ownPart b) (otherPart a)) 0) (sameType a b) true
+
+bytes-types : (a b : ℕ) → 0 < a → a < 6 → 0 < b → b < 6 → bitAnd (ownPart b) (otherPart a) ≡ 0 → sameType a b ≡ true
+unfolding types-test every ownPart otherPart sameType isC
+bytes-types (suc a) (suc b) pa la pb lb e =
+    if-so (eqb (bitAnd (ownPart (suc b)) (otherPart (suc a))) 0) (sameType (suc a) (suc b))
+    (every-below (λ b. types-test (suc a) (suc b)) 5 (every-below (λ a. every (λ b. types-test (suc a) (suc b)) 0 5) 5 refl a (omega arith)) b (omega arith)) (eq-eqb _ _ e)
+bytes-types zero b pa la pb lb e = absurd (omega arith)
+bytes-types (suc a) zero pa la pb lb e = absurd (omega arith)
+
+upset-test : ℕ → ℕ → Bool
+upset-test o c = cond (eqb (bitAnd (upsetters c) (otherPart o)) 0) (not (not (eqb c 3) && upsets o c)) true
+
+bytes-upset : (o c : ℕ) → 0 < o → o < 6 → c < 4 → bitAnd (upsetters c) (otherPart o) ≡ 0 → (not (eqb c 3) && upsets o c) ≡ false
+unfolding upset-test every upsetters otherPart upsets isC
+bytes-upset (suc o) c po lo lc e =
+    not-true _
+    (if-so (eqb (bitAnd (upsetters c) (otherPart (suc o))) 0) (not (not (eqb c 3) && upsets (suc o) c))
+    (every-below (λ c. upset-test (suc o) c) 4 (every-below (λ o. every (λ c. upset-test (suc o) c) 0 4) 5 refl o (omega arith)) c lc) (eq-eqb _ _ e))
+bytes-upset zero c po lo lc e = absurd (omega arith)
+
+back-test : ℕ → ℕ → Bool
+back-test o c = cond (eqb (bitAnd (ownPart o) (16 * upsetters c)) 0) (not (not (eqb c 3) && upsets o c)) true
+
+bytes-back : (o c : ℕ) → 0 < o → o < 6 → c < 4 → bitAnd (ownPart o) (16 * upsetters c) ≡ 0 → (not (eqb c 3) && upsets o c) ≡ false
+unfolding back-test every upsetters ownPart upsets isC
+bytes-back (suc o) c po lo lc e =
+    not-true _
+    (if-so (eqb (bitAnd (ownPart (suc o)) (16 * upsetters c)) 0) (not (not (eqb c 3) && upsets (suc o) c))
+    (every-below (λ c. back-test (suc o) c) 4 (every-below (λ o. every (λ c. back-test (suc o) c) 0 4) 5 refl o (omega arith)) c lc) (eq-eqb _ _ e))
+bytes-back zero c po lo lc e = absurd (omega arith)
+
+-- ---- two gates of one target and type
+
+not-blocked : (x y : Gate) → x .target ≡ y .target → IsGate 6 y → blocks x y ≡ false
+unfolding blocks
+not-blocked x y e ok = rw (e, ok .own) refl
+
+inverse-type : (o : ℕ) → 0 < o → o < 6 → sameType o (inverseOp o) ≡ true
+unfolding every sameType isC inverseOp
+inverse-type zero pos lt = absurd (omega arith)
+inverse-type (suc o) pos lt = every-below (λ o. sameType (suc o) (inverseOp (suc o))) 5 refl o (omega arith)
+
+equal-type : (a b : ℕ) → eqb a b ≡ true → sameType a b ≡ true
+unfolding sameType
+equal-type a b e = rw e refl
+
+module _ (g h : Gate) (okg : IsGate 6 g) (okh : IsGate 6 h) where
+  one-passes : g .target ≡ h .target → sameType (g .operator) (h .operator) ≡ true → mayChange g h ≡ true
+  unfolding mayChange clashes
+  one-passes e same = rw (eq-eqb (g .target) (h .target) e, same, not-blocked g h e okh, not-blocked h g (sym e) okg) refl
+
+  lines-off : sameLines g h ≡ false → fits g h ≡ false
+  unfolding fits cancels merges reduces
+  lines-off e = rw e refl
+
+  lines-on : fits g h ≡ true → sameLines g h ≡ true
+  lines-on e = ⊎-elim (λ (q : sameLines g h ≡ true). q) (λ (q : sameLines g h ≡ false). clash (fits g h) e (lines-off q)) (decide (sameLines g h))
+
+  types-off : eqb (h .operator) (inverseOp (g .operator)) ≡ false → eqb (g .operator) (h .operator) ≡ false → fits g h ≡ false
+  unfolding fits cancels merges reduces
+  types-off e q = rw (e, q) (off (sameLines g h && eqb (differences g h) 0) (sameLines g h && eqb (differences g h) 0 && isC (g .operator)) (sameLines g h && eqb (differences g h) 1))
+    where
+      off : (x y z : Bool) → (x && false || y && false || z && false) ≡ false
+      off true true true = refl
+      off true true false = refl
+      off true false true = refl
+      off true false false = refl
+      off false true true = refl
+      off false true false = refl
+      off false false true = refl
+      off false false false = refl
+
+  fits-type : fits g h ≡ true → sameType (g .operator) (h .operator) ≡ true
+  fits-type e =
+      ⊎-elim (λ (q : eqb (g .operator) (h .operator) ≡ true). equal-type (g .operator) (h .operator) q)
+      (λ (q : eqb (g .operator) (h .operator) ≡ false).
+      ⊎-elim (λ (i : eqb (h .operator) (inverseOp (g .operator)) ≡ true). rw (eqb-true (h .operator) (inverseOp (g .operator)) i) (inverse-type (g .operator) (omega (arith, okg .op-low)) (omega (arith, okg .op-high))))
+      (λ (i : eqb (h .operator) (inverseOp (g .operator)) ≡ false). clash (fits g h) e (types-off i q)) (decide (eqb (h .operator) (inverseOp (g .operator)))))
+      (decide (eqb (g .operator) (h .operator)))
+
+  fits-passes : fits g h ≡ true → mayChange g h ≡ true
+  fits-passes e = one-passes (same-target g h (lines-on e)) (fits-type e)
+
+-- a gate that a gate cannot pass does not fit it
+pub shut-unfit : (g h : Gate) → IsGate 6 g → Stands h → mayChange g h ≡ false → fits g h ≡ false
+shut-unfit g h okg stands shut =
+    ⊎-elim
+    (λ (q : fits g h ≡ true).
+    ⊎-elim (λ (e : isGap h ≡ true). clash (fits g h) q (ap (fits g) (stands .blank e) ∙ gap-unfit g okg))
+    (λ (e : isGap h ≡ false). clash (mayChange g h) (fits-passes g h okg (stands .real e) q) shut) (decide (isGap h)))
+    (λ (q : fits g h ≡ false). q) (decide (fits g h))
+
+-- ---- two gates of which one meets nothing of the other's view
+
+module _ (g h : Gate) (okg : IsGate 6 g) (okh : IsGate 6 h) where
+  module _ (apart : bitAnd (viewOf h) (againstOf g) ≡ 0) where
+    at-line : (k : ℕ) → bitAnd (digit 256 k (viewOf h)) (digit 256 k (againstOf g)) ≡ 0
+    at-line k =
+        let each : digit 256 k (bitAnd (viewOf h) (againstOf g)) ≡ bitAnd (digit 256 k (viewOf h)) (digit 256 k (againstOf g)) = digit-and 8 k (viewOf h) (againstOf g) in
+        sym each ∙ ap (digit 256 k) apart ∙ digit-of-zero 256 k (omega arith)
+
+    one-type : g .target ≡ h .target → sameType (g .operator) (h .operator) ≡ true
+    one-type e =
+        bytes-types (g .operator) (h .operator) (omega (arith, okg .op-low)) (omega (arith, okg .op-high)) (omega (arith, okh .op-low)) (omega (arith, okh .op-high))
+        (ap₂ bitAnd (sym (view-own h okh)) (sym (against-own g okg) ∙ ap (λ (k : ℕ). digit 256 k (againstOf g)) e) ∙ at-line (h .target))
+
+    free-first : (g .target ≡ h .target → ⊥) → blocks g h ≡ false
+    unfolding blocks
+    free-first ne =
+        bytes-upset (g .operator) (control h (g .target)) (omega (arith, okg .op-low)) (omega (arith, okg .op-high)) (line-lt h okh (g .target))
+        (ap₂ bitAnd (sym (view-line h okh (g .target) (okg .on-line) ne)) (sym (against-own g okg)) ∙ at-line (g .target))
+
+    free-second : (g .target ≡ h .target → ⊥) → blocks h g ≡ false
+    unfolding blocks
+    free-second ne =
+        bytes-back (h .operator) (control g (h .target)) (omega (arith, okh .op-low)) (omega (arith, okh .op-high)) (line-lt g okg (h .target))
+        (ap₂ bitAnd (sym (view-own h okh)) (sym (against-line g okg (h .target) (okh .on-line) (λ e. ne (sym e)))) ∙ at-line (h .target))
+
+    two-pass : (g .target ≡ h .target → ⊥) → mayChange g h ≡ true
+    unfolding mayChange clashes
+    two-pass ne = rw (ne-eqb (g .target) (h .target) ne, free-first ne, free-second ne) refl
+
+    seen-passes : mayChange g h ≡ true
+    seen-passes = go (ℕ-discrete (g .target) (h .target))
+      where
+        go : Dec (g .target ≡ h .target) → mayChange g h ≡ true
+        go (yes e) = one-passes g h okg okh e (one-type e)
+        go (no ne) = two-pass ne
+
+  -- a fitting pair is of one kind
+  one-kind : fits g h ≡ true → kindOf h ≡ kindOf g
+  unfolding kindOf
+  one-kind e =
+      let same : sameLines g h ≡ true = lines-on g h okg okh e in
+      rw (gate-real g okg, gate-real h okh) (ap (λ (a : ℕ). 2 ^ folded a) (pack-ext 256 _ _ 6 (λ k l. ap (λ (b : Bool). cond b 0 1) (sym (both-or-none g h same k l)))))
+
+-- the bit of a kind
+kind-bit : (n : ℕ) → n < 64 → (0 < 2 ^ n) × (2 ^ n < 18446744073709551616)
+unfolding every
+kind-bit n lt = (ltb-true _ _ (every-below (λ n. ltb 0 (2 ^ n)) 64 refl n lt), ltb-true _ _ (every-below (λ n. ltb (2 ^ n) 18446744073709551616) 64 refl n lt))
+
+-- and as it is shifted
+pub shifted-bit : (n : ℕ) → n < 64 → (1 * 2 ^ n) % 18446744073709551616 ≡ 2 ^ n
+unfolding every
+shifted-bit n lt = eqb-true _ _ (every-below (λ n. eqb ((1 * 2 ^ n) % 18446744073709551616) (2 ^ n)) 64 refl n lt)
+
+pub folded-lt : (a : ℕ) → folded a < 64
+unfolding folded
+folded-lt a = omega arith
+
+kind-some : (g : Gate) → IsGate 6 g → (0 < kindOf g) × (kindOf g < 18446744073709551616)
+unfolding kindOf
+kind-some g ok = rw (gate-real g ok) (kind-bit _ (folded-lt _))
+
+pub quiet-seen : (g h : Gate) → IsGate 6 g → Stands h → bitAnd (viewOf h) (againstOf g) ≡ 0 → bitAnd (kindOf h) (kindOf g) ≡ 0 → Quiet g h
+quiet-seen g h okg stands apart other =
+    ⊎-elim (λ (e : isGap h ≡ true). rw (stands .blank e) (record { unfit = gap-unfit g okg; pass = gap-passed g okg }))
+    (λ (e : isGap h ≡ false).
+    record {
+      unfit = ⊎-elim (λ (q : fits g h ≡ true). absurd (omega (arith, kind-some g okg .0, none (stands .real e) q))) (λ (q : fits g h ≡ false). q) (decide (fits g h));
+      pass = seen-passes g h okg (stands .real e) apart;
+    })
+    (decide (isGap h))
+  where
+    none : IsGate 6 h → fits g h ≡ true → kindOf g ≡ 0
+    none okh q = sym (and-self (kindOf g)) ∙ ap (λ (x : ℕ). bitAnd x (kindOf g)) (sym (one-kind g h okg okh q)) ∙ other
+
+-- ---- stretches
+
+pub passed-start : (gs : List Gate) (x : ℕ) → Passed gs x x 0 0
+passed-start gs x = record { quiet = λ g ok a b l c d. absurd (omega arith) }
+
+pub passed-next : (gs : List Gate) (x e u v : ℕ) → Each Stands gs → e < length gs → Passed gs x e u v → Passed gs x (e + 1) (bitOr u (viewOf (gate gs e))) (bitOr v (kindOf (gate gs e)))
+passed-next gs x e u v ok lt w = record { quiet = λ g okg a b l c d. go g okg (parts (againstOf g) u (viewOf (gate gs e)) a) (parts (kindOf g) v (kindOf (gate gs e)) b) l c d (ℕ-discrete l e) }
+  where
+    parts : (x u w : ℕ) → bitAnd x (bitOr u w) ≡ 0 → (bitAnd x u ≡ 0) × (bitAnd w x ≡ 0)
+    parts x u w q = let both = or-meets u w x (and-comm (bitOr u w) x ∙ q) in (and-comm x u ∙ both .0, both .1)
+
+    go : (g : Gate) → IsGate 6 g → (bitAnd (againstOf g) u ≡ 0) × (bitAnd (viewOf (gate gs e)) (againstOf g) ≡ 0) → (bitAnd (kindOf g) v ≡ 0) × (bitAnd (kindOf (gate gs e)) (kindOf g) ≡ 0)
+        → (l : ℕ) → x ≤ l → l < e + 1 → Dec (l ≡ e) → Quiet g (gate gs l)
+    go g okg a b l c d (yes q) = rw q (quiet-seen g (gate gs e) okg (each-at Stands gs _ ok e lt) (a .1) (b .1))
+    go g okg a b l c d (no ne) = w .quiet g okg (a .0) (b .0) l c (omega arith)
+
+-- every gate is of a kind, so that nothing is said where all kinds are there
+some-rest : (n : ℕ) → 0 < n → n < 18446744073709551616 → n % 18446744073709551616 ≡ 0 → ⊥
+some-rest n pos lt e = omega arith
+
+pub passed-all : (gs : List Gate) (x e u : ℕ) → Passed gs x e u 18446744073709551615
+passed-all gs x e u =
+    record {
+      quiet = λ g ok a b l c d. absurd (some-rest (kindOf g) (kind-some g ok .0) (kind-some g ok .1) (sym (and-mask (kindOf g) 64) ∙ b));
+    }
+
+pub marked-start : (gs : List Gate) (marks : List ℕ) (n : ℕ) → length gs ≤ 8 * n → length gs + 16 ≤ 8 * length marks
+    → Marked gs (span (λ k. 18446744073709551615) 0 n ++ drop n marks)
+marked-start gs marks n le room =
+    record {
+      room = omega (arith, length-append {A = ℕ} (span (λ k. 18446744073709551615) 0 n) (drop n marks), length-span {A = ℕ} (λ k. 18446744073709551615) 0 n, length-drop n marks);
+      each = λ s l. rw (filled-at {A = ℕ} (λ k. 18446744073709551615) marks n (2 * s + 1) 0 (omega arith)) (passed-all gs (16 * s) (16 * s + 16) _);
+    }
+
+-- gate p is replaced, and its stretch forgotten
+pub marked-set : (gs : List Gate) (marks : List ℕ) (p : ℕ) (g : Gate) → p < length gs → Marked gs marks → Marked (set gs p g) (set marks (2 * (p / 16) + 1) 18446744073709551615)
+marked-set gs marks p g lt w =
+    record {
+      room = rw (length-set gs p g, length-set marks (2 * (p / 16) + 1) 18446744073709551615) (w .room);
+      each = λ s l. go s (rw (length-set gs p g) at l) (ℕ-discrete s (p / 16));
+    }
+  where
+    go : (s : ℕ) → 16 * s + 16 ≤ length gs → Dec (s ≡ p / 16)
+        → Passed (set gs p g) (16 * s) (16 * s + 16) (getD (set marks (2 * (p / 16) + 1) 18446744073709551615) (2 * s) 0) (getD (set marks (2 * (p / 16) + 1) 18446744073709551615) (2 * s + 1) 0)
+    go s l (yes e) =
+        rw (e, getD-set-same marks (2 * (p / 16) + 1) 18446744073709551615 0 (omega (arith, w .room))) (passed-all (set gs p g) (16 * (p / 16)) (16 * (p / 16) + 16) _)
+    go s l (no ne) =
+        rw (getD-set-other marks (2 * (p / 16) + 1) (2 * s) 18446744073709551615 0 (λ e. omega arith), getD-set-other marks (2 * (p / 16) + 1) (2 * s + 1) 18446744073709551615 0 (λ e. ne (omega arith)))
+        (record { quiet = λ h ok a b k c d. rw (getD-set-other gs p k g _ (λ e. ne (omega arith))) (w .each s l .quiet h ok a b k c d) })
+
+-- stretch s is looked at
+pub marked-look : (gs : List Gate) (marks : List ℕ) (s u v : ℕ) → 16 * s + 16 ≤ length gs → Marked gs marks → Passed gs (16 * s) (16 * s + 16) u v
+    → Marked gs (set (set marks (2 * s) u) (2 * s + 1) v)
+marked-look gs marks s u v inside w here =
+    record { room = rw (length-set (set marks (2 * s) u) (2 * s + 1) v, length-set marks (2 * s) u) (w .room); each = λ q l. go q l (ℕ-discrete q s) }
+  where
+    first : getD (set (set marks (2 * s) u) (2 * s + 1) v) (2 * s) 0 ≡ u
+    first = getD-set-other (set marks (2 * s) u) (2 * s + 1) (2 * s) v 0 (λ e. omega arith) ∙ getD-set-same marks (2 * s) u 0 (omega (arith, w .room))
+
+    second : getD (set (set marks (2 * s) u) (2 * s + 1) v) (2 * s + 1) 0 ≡ v
+    second = getD-set-same (set marks (2 * s) u) (2 * s + 1) v 0 (rw (length-set marks (2 * s) u) (omega (arith, w .room)))
+
+    else-where : (k : ℕ) → (k ≡ 2 * s → ⊥) → (k ≡ 2 * s + 1 → ⊥) → getD (set (set marks (2 * s) u) (2 * s + 1) v) k 0 ≡ getD marks k 0
+    else-where k a b = getD-set-other (set marks (2 * s) u) (2 * s + 1) k v 0 b ∙ getD-set-other marks (2 * s) k u 0 a
+
+    go : (q : ℕ) → 16 * q + 16 ≤ length gs → Dec (q ≡ s)
+        → Passed gs (16 * q) (16 * q + 16) (getD (set (set marks (2 * s) u) (2 * s + 1) v) (2 * q) 0) (getD (set (set marks (2 * s) u) (2 * s + 1) v) (2 * q + 1) 0)
+    go q l (yes e) = rw (e, first, second) here
+    go q l (no ne) = rw (else-where (2 * q) (λ e. ne (omega arith)) (λ e. omega arith), else-where (2 * q + 1) (λ e. omega arith) (λ e. ne (omega arith))) (w .each q l)
+
+-- row i passes stretch s
+pub clear-stretch : (gs : List Gate) (i s u v : ℕ) → Clear gs i (16 * s) → 16 * s + 16 ≤ length gs → IsGate 6 (gate gs i) → Passed gs (16 * s) (16 * s + 16) u v
+    → bitAnd (againstOf (gate gs i)) u ≡ 0 → bitAnd (kindOf (gate gs i)) v ≡ 0 → Clear gs i (16 * (s + 1))
+clear-stretch gs i s u v w inside ok here a b =
+    record {
+      order = omega (arith, w .order);
+      inside = omega arith;
+      quiet = λ l c d. by-place (Quiet (gate gs i) (gate gs l)) (16 * s) l (λ e. w .quiet l c e) (λ e. here .quiet (gate gs i) ok a b l e (omega arith));
+    }
+
+-- ---- what the code computes from a record's word
+
+line-sum : (c : ℕ) → c < 4 → 12 * cond (eqb c 3) 0 1 + 4 * cond (eqb c 0) 0 1 ≡ upsetters c + c + 1
+unfolding upsetters every
+line-sum c lt = eqb-true _ _ (every-below (λ c. eqb (12 * cond (eqb c 3) 0 1 + 4 * cond (eqb c 0) 0 1) (upsetters c + c + 1)) 4 refl c lt)
+
+lines-sum : (a z u f : ℕ → ℕ) → ((k : ℕ) → k < 6 → 12 * a k + 4 * z k ≡ u k + f k + 1) → 12 * pack 256 a 6 + 4 * pack 256 z 6 ≡ pack 256 u 6 + pack 256 f 6 + 1103823438081
+unfolding pack sum
+lines-sum a z u f each =
+    omega (arith, each 0 (omega arith), each 1 (omega arith), each 2 (omega arith), each 3 (omega arith), each 4 (omega arith), each 5 (omega arith))
+
+module _ (w : ℕ) (low : Low w) where
+  gap-word : isGap (gateOf w) ≡ eqb (w % 256) 0
+  unfolding isGap gateOf
+  gap-word = ap (λ (x : ℕ). eqb x 0) (digit-zero 256 w)
+
+  marks-word : pack 256 (λ k. cond (eqb (control (gateOf w) k) 3) 0 1) 6 ≡ controlMarks w
+  unfolding controlMarks
+  marks-word = pack-ext 256 _ _ 6 (λ k l. ap (λ (x : ℕ). cond (eqb x 3) 0 1) (control-word w low k l))
+
+  pub kind-none : w % 256 ≡ 0 → kindOf (gateOf w) ≡ 0
+  unfolding kindOf
+  kind-none e = rw (gap-word ∙ eq-eqb (w % 256) 0 e) refl
+
+  pub kind-word : (w % 256 ≡ 0 → ⊥) → kindOf (gateOf w) ≡ 2 ^ folded (controlMarks w)
+  unfolding kindOf
+  kind-word ne = rw (gap-word ∙ ne-eqb (w % 256) 0 ne, marks-word) refl
+
+module _ (w : ℕ) (small : w < 256 ^ 8) (low : Low w) where
+  shunned-word : shunned (gateOf w) ≡ pack 256 (λ k. upsetters (byte (2 + k) w)) 6
+  unfolding shunned
+  shunned-word = pack-ext 256 _ _ 6 (λ k l. ap upsetters (control-word w low k l))
+
+  high-bytes : pack 256 (λ k. byte (2 + k) w) 6 ≡ w / 65536
+  high-bytes = pack-ext 256 _ _ 6 (λ k l. sym (byte-high k w)) ∙ pack-digits 256 6 (w / 65536) (omega arith) (omega arith)
+
+  pub shun-sum : 12 * controlMarks w + 4 * otherMarks w 0 ≡ shunned (gateOf w) + w / 65536 + 1103823438081
+  unfolding controlMarks otherMarks
+  shun-sum =
+      rw (shunned-word, ← high-bytes)
+      (lines-sum (λ k. cond (eqb (byte (2 + k) w) 3) 0 1) (λ k. cond (eqb (byte (2 + k) w) (byte k 0)) 0 1) (λ k. upsetters (byte (2 + k) w)) (λ k. byte (2 + k) w)
+      (λ k l. rw (digit-of-zero 256 k (omega arith)) (line-sum (byte (2 + k) w) (low .each k l))))
+
+  pub shunned-lt : shunned (gateOf w) < 256 ^ 6
+  shunned-lt = rw shunned-word (pack-lt 256 (λ k. upsetters (byte (2 + k) w)) 6 (λ k l. omega (arith, upsetters-lt (byte (2 + k) w) (low .each k l))))
+
+  operator-word : gateOf w .operator ≡ w % 256
+  unfolding gateOf
+  operator-word = digit-zero 256 w
+
+  target-word : gateOf w .target ≡ w / 256 % 256
+  unfolding gateOf
+  target-word = byte-one w
+
+  pub view-word : shunned (gateOf w) + ownPart (w % 256) * 256 ^ (w / 256 % 256) ≡ viewOf (gateOf w)
+  unfolding viewOf
+  view-word = ap₂ (λ (o t : ℕ). shunned (gateOf w) + ownPart o * 256 ^ t) (sym operator-word) (sym target-word)
+
+  pub against-word : 16 * shunned (gateOf w) + otherPart (w % 256) * 256 ^ (w / 256 % 256) ≡ againstOf (gateOf w)
+  unfolding againstOf
+  against-word = ap₂ (λ (o t : ℕ). 16 * shunned (gateOf w) + otherPart o * 256 ^ t) (sym operator-word) (sym target-word)
+
+-- the weight of a line's byte, and a byte there
+pub weight-most : (t : ℕ) → t ≤ 6 → 256 ^ t ≤ 281474976710656
+unfolding every
+weight-most t le = leb-true _ _ (every-below (λ t. leb (256 ^ t) 281474976710656) 7 refl t (omega arith))
+
+pub part-most : (d x : ℕ) → d < 256 → x ≤ 281474976710656 → d * x ≤ 71776119061217280
+part-most d x lt le = le-trans (mul-le-mul-left d le) (omega arith)
