@@ -153,36 +153,6 @@ holds-set b gs p g w lt ok =
 
 -- ---- the gaps closed
 
--- the loop that brings record p to place q, up to byte k
-pub record Moving (s t : List ℕ) (p q k : ℕ) : Type 0 where
-  pub len : length t ≡ length s
-  pub within : k ≤ 8
-  pub here : (l : ℕ) → l < k → getD t (8 * q + l) 0 ≡ getD s (8 * p + l) 0
-  pub below : (y : ℕ) → y < 8 * q → getD t y 0 ≡ getD s y 0
-  pub above : (y : ℕ) → 8 * q + k ≤ y → getD t y 0 ≡ getD s y 0
-
-pub moving-start : (s : List ℕ) (p q : ℕ) → Moving s s p q 0
-moving-start s p q = record { len = refl; within = omega arith; here = λ l a. absurd (omega arith); below = λ y l. refl; above = λ y l. refl }
-
-pub moving-next : (s t : List ℕ) (p q k : ℕ) → q ≤ p → 8 * p + 8 ≤ length s → k < 8 → Moving s t p q k
-    → Moving s (set t (8 * q + k) (getD t (8 * p + k) 0)) p q (k + 1)
-moving-next s t p q k le room lt w =
-    record {
-      len = length-set t (8 * q + k) _ ∙ w .len;
-      within = omega arith;
-      here = λ l a. byte l a (ℕ-discrete l k);
-      below = λ y l. getD-set-other t (8 * q + k) y _ 0 (omega arith) ∙ w .below y l;
-      above = λ y l. getD-set-other t (8 * q + k) y _ 0 (omega arith) ∙ w .above y (omega arith);
-    }
-  where
-    byte : (l : ℕ) → l < k + 1 → Dec (l ≡ k) → getD (set t (8 * q + k) (getD t (8 * p + k) 0)) (8 * q + l) 0 ≡ getD s (8 * p + l) 0
-    byte l a (yes e) = rw (e, getD-set-same t (8 * q + k) (getD t (8 * p + k) 0) 0 (omega (arith, w .len))) (w .above (8 * p + k) (omega arith))
-    byte l a (no ne) = getD-set-other t (8 * q + k) (8 * q + l) _ 0 (omega arith) ∙ w .here l (omega arith)
-
-pub moving-end : (s t : List ℕ) (p q k : ℕ) → 8 ≤ k → Moving s t p q k → Moved s t p q
-moving-end s t p q k le w =
-    record { len = w .len; here = λ l a. w .here l (omega arith); below = w .below; above = λ y l. w .above y (omega (arith, w .within)) }
-
 -- the gates before place p stand one behind the other from the start on, q of them, and the records from p on are as they were
 pub record Closing (gs : List Gate) (s t : List ℕ) (p q : ℕ) : Type 0 where
   pub len : length t ≡ length s

@@ -9,4 +9,5 @@ pub mod Buffers
 pub mod Rows
 pub mod Firsts
 pub mod Repetitions
+pub mod Words
 pub mod Stretches

@@ -29,7 +29,7 @@ use Rattle.digits.proofs.Bits.{digit-and, digit-of-zero}
 use Rattle.gates.specs.declared.Gate.{Gate}
 use Rattle.gates.specs.Gates.{control, inverseOp, IsGate}
 use Rattle.gates.specs.Words.{byte, gateOf, Low, controlMarks, otherMarks}
-use Rattle.gates.proofs.Bytes.{byte-one, byte-high}
+use Rattle.gates.proofs.Bytes.{byte-high}
 use Rattle.gates.proofs.Marks.{control-word}
 use Rattle.tidying.specs.Places.{isC, sameType, upsets, blocks, clashes, mayChange}
 use Rattle.tidying.specs.Rules.{sameLines, differences, cancels, merges, reduces, fits}
@@ -38,6 +38,7 @@ use Rattle.tidying.specs.Buffers.{isGap, Stands}
 use Rattle.tidying.specs.Rows.{Quiet, Clear}
 use Rattle.tidying.specs.Views.{upsetters, shunned, ownPart, viewOf, otherPart, againstOf, folded, kindOf, Passed, Marked}
 use Rattle.tidying.proofs.Rules.{same-target, both-or-none}
+use Rattle.tidying.proofs.Words.{operator-word, target-word}
 use Rattle.tidying.proofs.Gaps.{by-place, gate-real}
 use Rattle.tidying.proofs.Firsts.{gap-passed, gap-unfit}
 
@@ -452,21 +453,13 @@ module _ (w : ℕ) (small : w < 256 ^ 8) (low : Low w) where
   pub shunned-lt : shunned (gateOf w) < 256 ^ 6
   shunned-lt = rw shunned-word (pack-lt 256 (λ k. upsetters (byte (2 + k) w)) 6 (λ k l. omega (arith, upsetters-lt (byte (2 + k) w) (low .each k l))))
 
-  operator-word : gateOf w .operator ≡ w % 256
-  unfolding gateOf
-  operator-word = digit-zero 256 w
-
-  target-word : gateOf w .target ≡ w / 256 % 256
-  unfolding gateOf
-  target-word = byte-one w
-
   pub view-word : shunned (gateOf w) + ownPart (w % 256) * 256 ^ (w / 256 % 256) ≡ viewOf (gateOf w)
   unfolding viewOf
-  view-word = ap₂ (λ (o t : ℕ). shunned (gateOf w) + ownPart o * 256 ^ t) (sym operator-word) (sym target-word)
+  view-word = ap₂ (λ (o t : ℕ). shunned (gateOf w) + ownPart o * 256 ^ t) (sym (operator-word w)) (sym (target-word w))
 
   pub against-word : 16 * shunned (gateOf w) + otherPart (w % 256) * 256 ^ (w / 256 % 256) ≡ againstOf (gateOf w)
   unfolding againstOf
-  against-word = ap₂ (λ (o t : ℕ). 16 * shunned (gateOf w) + otherPart o * 256 ^ t) (sym operator-word) (sym target-word)
+  against-word = ap₂ (λ (o t : ℕ). 16 * shunned (gateOf w) + otherPart o * 256 ^ t) (sym (operator-word w)) (sym (target-word w))
 
 -- the weight of a line's byte, and a byte there
 pub weight-most : (t : ℕ) → t ≤ 6 → 256 ^ t ≤ 281474976710656

@@ -9,10 +9,18 @@ use lib.ListN.{length, getD}
 use Rattle.digits.specs.Digits.{pack}
 use Rattle.gates.specs.declared.Gate.{Gate}
 use Rattle.gates.specs.Gates.{control, IsGate}
+use Rattle.gates.specs.Words.{byte, Low}
 use Rattle.tidying.specs.Places.{isC}
 use Rattle.tidying.specs.Tidying.{gate}
 use Rattle.tidying.specs.Buffers.{isGap}
 use Rattle.tidying.specs.Rows.{Quiet}
+
+-- the number that the record of a gate or a gap is
+pub record Written (w : ℕ) : Type 0 where
+  pub small : w < 256 ^ 8
+  pub lines : Low w
+  pub op-high : byte 0 w ≤ 5
+  pub on-line : byte 1 w ≤ 6
 
 -- A byte for each line. Its low half has a bit for each type of operator: N 1, E 2, D 4, C 8. It says which types on that line as their target the
 -- gate cannot pass: those that upset its control, or on its own target those of another type. The high half of its target's byte is its own type.

@@ -38,11 +38,7 @@ fn move_record(b: &mut [u8], p: usize, q: usize)
     requires { ⌜ (q ≤ p) × (8 * p + 8 ≤ length (now b)) ⌝ }
     ensures { λ _. ⌜ Moved (now (b .entry)) (now (b .exit)) p q ⌝ }
 {
-    let mut k: usize = 0;
-    while k < 8 {
-        b[8 * q + k] = b[8 * p + k];
-        k = k + 1;
-    }
+    gates::words::store(gates::words::word_at(b, 8 * p), b, 8 * q);
 }
 
 // Record p comes to stand at place q where it is no gap; answers the place for the next.

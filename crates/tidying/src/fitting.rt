@@ -4,6 +4,8 @@ ghost use mathlib.Core.Bool.{true, false};
 ghost use Prim.Native.Nat.{_^_, _<_};
 ghost use Rattle.gates.specs.Gates.{inverse};
 ghost use Rattle.tidying.specs.Rules.{sameLines, cancels, merges, reduces, fits, loosened, retuned};
+ghost use Rattle.tidying.specs.Tidying.{gate};
+ghost use Rattle.tidying.specs.Buffers.{gatesIn, Holds};
 use gates::Gate;
 
 // Equal target, and equal set of control lines.
@@ -89,6 +91,17 @@ pub fn fits_pair(g: Gate, h: Gate) -> bool
         return fits_closely(g, h);
     }
     false
+}
+
+// A rule fits the gates at two places. They are read here: what the test of few pairs needs is not made ready for all.
+pub fn fits_places(b: &[u8], m: usize, i: usize, j: usize) -> bool
+    requires { ⌜ Holds (now b) (gatesIn (now b) m) × (i < m) × (j < m) ⌝ }
+    ensures { λ r. ⌜ r ≡ fits (gate (gatesIn (now (b .entry)) m) i) (gate (gatesIn (now (b .entry)) m) j) ⌝ }
+{
+    fits_pair(
+        super::buffer::read_gate(b, i),
+        super::buffer::read_gate(b, j),
+    )
 }
 
 // The gate with the inverse operator.

@@ -118,14 +118,14 @@ fn look_again(b: &[u8], m: usize, p: usize, g: Gate, r: usize, n: u16) -> u16
     if c == p {
         return p as u16;
     }
-    let h = super::buffer::read_gate(b, r);
-    if super::fitting::fits_pair(h, g) {
+    let h = super::views::word(b, m, r);
+    if !super::passing::may_change(h, gates::words::word_of(g)) {
         return p as u16;
     }
-    if super::passing::may_change(h, g) {
-        return n;
+    if super::fitting::fits_pair(super::buffer::read_gate(b, r), g) {
+        return p as u16;
     }
-    p as u16
+    n
 }
 
 // The lowest row that may have a pair, which was low, where row r has the number n now.

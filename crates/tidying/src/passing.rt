@@ -1,9 +1,12 @@
-// Which gates may change places.
+// Which gates may change places, asked of the numbers that their records are.
 ghost use mathlib.Core.Path.{_≡_};
-ghost use mathlib.Core.Bool.{cond};
-ghost use Prim.Native.Nat.{_<_};
+ghost use mathlib.Core.Bool.{cond, not};
+ghost use Prim.Native.Nat.{_≤_, _<_};
+ghost use lib.Dec.{eqb};
+ghost use Rattle.gates.specs.Words.{gateOf};
+ghost use Rattle.gates.specs.Gates.{control};
 ghost use Rattle.tidying.specs.Places.{isC, sameType, blocks, clashes, mayChange};
-use gates::Gate;
+ghost use Rattle.tidying.specs.Views.{Written};
 
 // The operator is C1 or C2.
 pub fn is_c(o: u8) -> bool
@@ -12,47 +15,57 @@ pub fn is_c(o: u8) -> bool
     o == 1 || o == 2
 }
 
-// The operators are of one type.
-fn same_type(a: u8, b: u8) -> bool
-    ensures { λ r. ⌜ r ≡ sameType a b ⌝ }
+// The gate's control on line t.
+fn control_in(w: u64, t: u64) -> u64
+    requires { ⌜ Written w × (t ≤ 6) ⌝ }
+    ensures { λ r. ⌜ (r ≡ control (gateOf w) t) × (r < 4) ⌝ }
 {
-    if a == b {
-        return true;
-    }
-    is_c(a) && is_c(b)
+    (w / 65536 >> (8 * t)) % 256
 }
 
 // A bit for each operator and each value of a control, set where the operator upsets it. Value 3 is no control.
-const UPSETS: u32 = 3561328;
+const UPSETS: u64 = 3561328;
 
 // 1 where the target of g is a control of h that g upsets, else 0.
-fn blocks_gate(g: Gate, h: Gate) -> u32
-    requires { ⌜ (g .operator < 6) × (g .target < 7) ⌝ }
-    ensures { λ r. ⌜ r ≡ cond (blocks g h) 1 0 ⌝ }
+fn blocks_gate(g: u64, h: u64) -> u64
+    requires { ⌜ Written g × Written h ⌝ }
+    ensures { λ r. ⌜ r ≡ cond (blocks (gateOf g) (gateOf h)) 1 0 ⌝ }
 {
-    let v = super::controls::control_on(h.controls, g.target as usize);
-    (UPSETS >> (4 * g.operator as u32 + v as u32)) % 2
+    let v = control_in(h, g / 256 % 256);
+    (UPSETS >> (4 * (g % 256) + v)) % 2
+}
+
+// A bit for each two operators, set where they are not of one type.
+const APART: u64 = 34089180798;
+
+// 1 where two operators are not of one type, else 0.
+fn types_apart(a: u64, b: u64) -> u64
+    requires { ⌜ (a < 6) × (b < 6) ⌝ }
+    ensures { λ r. ⌜ r ≡ cond (not (sameType a b)) 1 0 ⌝ }
+{
+    (APART >> (6 * a + b)) % 2
+}
+
+// 1 where two numbers are one, else 0.
+fn as_one(x: u64, y: u64) -> u64
+    ensures { λ r. ⌜ r ≡ cond (eqb x y) 1 0 ⌝ }
+{
+    if x == y { 1 } else { 0 }
 }
 
 // 1 where they have one target and are not of one type, else 0.
-fn targets_clash(g: Gate, h: Gate) -> u32
-    ensures { λ r. ⌜ r ≡ cond (clashes g h) 1 0 ⌝ }
+fn targets_clash(g: u64, h: u64) -> u64
+    requires { ⌜ Written g × Written h ⌝ }
+    ensures { λ r. ⌜ r ≡ cond (clashes (gateOf g) (gateOf h)) 1 0 ⌝ }
 {
-    if g.target != h.target {
-        return 0;
-    }
-    if same_type(g.operator, h.operator) {
-        0
-    } else {
-        1
-    }
+    let one = as_one(g / 256 % 256, h / 256 % 256);
+    (one + types_apart(g % 256, h % 256)) / 2
 }
 
 // The gates may change places: none of three reasons against it, which are counted so that none is a branch.
-pub fn may_change(g: Gate, h: Gate) -> bool
-    requires { ⌜ (g .operator < 6) × (g .target < 7) ⌝ }
-    requires { ⌜ (h .operator < 6) × (h .target < 7) ⌝ }
-    ensures { λ r. ⌜ r ≡ mayChange g h ⌝ }
+pub fn may_change(g: u64, h: u64) -> bool
+    requires { ⌜ Written g × Written h ⌝ }
+    ensures { λ r. ⌜ r ≡ mayChange (gateOf g) (gateOf h) ⌝ }
 {
     targets_clash(g, h) + blocks_gate(g, h) + blocks_gate(h, g) == 0
 }

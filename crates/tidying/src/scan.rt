@@ -31,14 +31,14 @@ pub fn find_pair(
     let mut i = super::memory::next_row(far, m, from);
     let mut j = i;
     'rows: while i < m {
-        let g = super::buffer::read_gate(b, i);
+        let g = super::views::word(b, m, i);
         j = far[i] as usize;
         while j < m {
-            let h = super::buffer::read_gate(b, j);
+            let h = super::views::word(b, m, j);
             if !super::passing::may_change(g, h) {
                 break;
             }
-            if super::fitting::fits_pair(g, h) {
+            if super::fitting::fits_places(b, m, i, j) {
                 break 'rows;
             }
             j = super::views::pass_stretches(b, marks, m, i, j + 1);

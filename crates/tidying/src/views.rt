@@ -6,19 +6,19 @@ ghost use Prim.Native.Nat.{ℕ, _+_, _*_, _^_, _≤_, _<_};
 ghost use lib.Bits.{bitAnd};
 ghost use lib.ListN.{length, getD, set, drop};
 ghost use Rattle.ranges.specs.Ranges.{span};
-ghost use Rattle.gates.specs.Words.{byte, gateOf, Low};
+ghost use Rattle.gates.specs.Words.{gateOf};
 ghost use Rattle.gates.specs.Gates.{IsGate};
 ghost use Rattle.tidying.specs.Tidying.{gate};
 ghost use Rattle.tidying.specs.Buffers.{gatesIn, isGap, Stands, Holds};
 ghost use Rattle.tidying.specs.Rows.{Clear};
-ghost use Rattle.tidying.specs.Views.{shunned, ownPart, viewOf, otherPart, againstOf, folded, kindOf, Passed, Marked};
+ghost use Rattle.tidying.specs.Views.{Written, shunned, ownPart, viewOf, otherPart, againstOf, folded, kindOf, Passed, Marked};
 
 // Of a stretch of which nothing is known.
 const ALL: u64 = 18446744073709551615;
 
 // For each line the types that upset the gate's control there.
 fn shun(w: u64) -> u64
-    requires { ⌜ (w < 256 ^ 8) × Low w ⌝ }
+    requires { ⌜ Written w ⌝ }
     ensures { λ r. ⌜ (r ≡ shunned (gateOf w)) × (r < 256 ^ 6) ⌝ }
 {
     12 * gates::words::mark_controls(w) + 4 * gates::words::mark_others(w, 0)
@@ -63,7 +63,7 @@ fn weight(t: u64) -> u64
 
 // What a gate is for others, and what it cannot pass.
 fn view(w: u64) -> u64
-    requires { ⌜ (w < 256 ^ 8) × Low w × (byte 1 w ≤ 6) ⌝ }
+    requires { ⌜ Written w ⌝ }
     ensures { λ r. ⌜ r ≡ viewOf (gateOf w) ⌝ }
 {
     shun(w) + own_part(w % 256) * weight(w / 256 % 256)
@@ -71,7 +71,7 @@ fn view(w: u64) -> u64
 
 // What a view must not meet.
 fn against(w: u64) -> u64
-    requires { ⌜ (w < 256 ^ 8) × Low w × (byte 1 w ≤ 6) ⌝ }
+    requires { ⌜ Written w ⌝ }
     ensures { λ r. ⌜ r ≡ againstOf (gateOf w) ⌝ }
 {
     16 * shun(w) + other_part(w % 256) * weight(w / 256 % 256)
@@ -87,7 +87,7 @@ fn fold_marks(a: u64) -> u64
 
 // The bit for the gate's control lines; a gap has none.
 fn kind(w: u64) -> u64
-    requires { ⌜ Low w ⌝ }
+    requires { ⌜ Written w ⌝ }
     ensures { λ r. ⌜ r ≡ kindOf (gateOf w) ⌝ }
 {
     if w % 256 == 0 {
@@ -97,9 +97,9 @@ fn kind(w: u64) -> u64
 }
 
 // Record k.
-fn word(b: &[u8], m: usize, k: usize) -> u64
+pub fn word(b: &[u8], m: usize, k: usize) -> u64
     requires { ⌜ Holds (now b) (gatesIn (now b) m) × (k < m) ⌝ }
-    ensures { λ r. ⌜ (r < 256 ^ 8) × Low r × (byte 1 r ≤ 6) × (gateOf r ≡ gate (gatesIn (now (b .entry)) m) k) ⌝ }
+    ensures { λ r. ⌜ Written r × (gateOf r ≡ gate (gatesIn (now (b .entry)) m) k) ⌝ }
 {
     gates::words::word_at(b, 8 * k)
 }

@@ -4,6 +4,7 @@ use mathlib.Core.Bool.{Bool, true, false, cond, not, _||_}
 use Prim.Native.Nat.{_+_, _≤_}
 use native.Mathlib.Omega.{arith}
 use lib.Dec.{eqb}
+use Rattle.gates.specs.Words.{gateOf}
 use Rattle.tidying.specs.Places.{blocks, clashes, mayChange}
 use borrow.Author.Needs.{needs}
 use Rattle.tidying.proofs.passing.may_change.Statement.{statement}
@@ -24,23 +25,23 @@ one-most true = omega arith
 one-most false = omega arith
 
 targets-clash-requires : tie.Need-targets-clash-requires
-targets-clash-requires c κs = search needs
+targets-clash-requires c κs = c .pre
 
 blocks-gate-requires : tie.Need-blocks-gate-requires
-blocks-gate-requires c κs = search needs
+blocks-gate-requires c κs = c .before .pre
 
 add-result : tie.Need-add-result
-add-result c = rw (c .before .targets-clash .ensures, c .blocks-gate .ensures) (omega (arith, one-most (clashes (c .before .before .args .g) (c .before .before .args .h)), one-most (blocks (c .before .before .args .g) (c .before .before .args .h))))
+add-result c = rw (c .before .targets-clash .ensures, c .blocks-gate .ensures) (omega (arith, one-most (clashes (gateOf (c .before .before .args .g)) (gateOf (c .before .before .args .h))), one-most (blocks (gateOf (c .before .before .args .g)) (gateOf (c .before .before .args .h)))))
 
 blocks-gate-requires-2 : tie.Need-blocks-gate-requires-2
-blocks-gate-requires-2 c κs = search needs
+blocks-gate-requires-2 c κs = (c .before .before .pre .1, c .before .before .pre .0)
 
 add-result-2 : tie.Need-add-result-2
-add-result-2 c = rw (c .before .before .targets-clash .ensures, c .before .blocks-gate .ensures, c .blocks-gate2 .ensures) (omega (arith, one-most (clashes (c .before .before .before .args .g) (c .before .before .before .args .h)), one-most (blocks (c .before .before .before .args .g) (c .before .before .before .args .h)), one-most (blocks (c .before .before .before .args .h) (c .before .before .before .args .g))))
+add-result-2 c = rw (c .before .before .targets-clash .ensures, c .before .blocks-gate .ensures, c .blocks-gate2 .ensures) (omega (arith, one-most (clashes (gateOf (c .before .before .before .args .g)) (gateOf (c .before .before .before .args .h))), one-most (blocks (gateOf (c .before .before .before .args .g)) (gateOf (c .before .before .before .args .h))), one-most (blocks (gateOf (c .before .before .before .args .h)) (gateOf (c .before .before .before .args .g)))))
 
 returns : tie.Need-returns
 unfolding mayChange
-returns c = rw (c .before .before .targets-clash .ensures, c .before .blocks-gate .ensures, c .blocks-gate2 .ensures) (none-counted (clashes (c .before .before .before .args .g) (c .before .before .before .args .h)) (blocks (c .before .before .before .args .g) (c .before .before .before .args .h)) (blocks (c .before .before .before .args .h) (c .before .before .before .args .g)))
+returns c = rw (c .before .before .targets-clash .ensures, c .before .blocks-gate .ensures, c .blocks-gate2 .ensures) (none-counted (clashes (gateOf (c .before .before .before .args .g)) (gateOf (c .before .before .before .args .h))) (blocks (gateOf (c .before .before .before .args .g)) (gateOf (c .before .before .before .args .h))) (blocks (gateOf (c .before .before .before .args .h)) (gateOf (c .before .before .before .args .g))))
 
 pub may-change-spec : {M : Type 1} → statement M
 may-change-spec =

@@ -12,13 +12,14 @@ use borrow.Author.Tests.{not-true, not-false}
 use borrow.Author.Needs.{needs}
 use Rattle.gates.specs.declared.Gate.{Gate}
 use Rattle.gates.specs.Gates.{IsGate}
+use Rattle.gates.specs.Words.{gateOf}
 use Rattle.tidying.specs.Places.{mayChange}
 use Rattle.tidying.specs.Rules.{fits}
 use Rattle.tidying.specs.Tidying.{gate}
 use Rattle.tidying.specs.Buffers.{gatesIn, isGap}
 use Rattle.tidying.specs.Rows.{Clear, Stops, Known, Low, Reached}
 use Rattle.tidying.specs.Views.{Marked}
-use Rattle.tidying.proofs.Buffers.{length-gates, gate-in, holds-fits, holds-gate, holds-lines}
+use Rattle.tidying.proofs.Buffers.{length-gates, holds-gate}
 use Rattle.tidying.proofs.Rows.{clear-next, row-real, row-clear, known-stops, reach-others, low-next}
 use Rattle.tidying.proofs.Stretches.{shut-unfit}
 use Rattle.tidying.proofs.scan.find_pair.Statement.{statement}
@@ -83,20 +84,20 @@ module _ (c : tie.In-loop Inv-loop μ-loop Inv-rows μ-rows) where
   place-inside : c .before .loop .j < length (gates (c .before .before .before .before .before .before .before .before .before .before .before .before))
   place-inside = below (c .before .before .before .before .before .before .before .before .before .before .before .before .args .b .now) (c .before .before .before .before .before .before .before .before .before .before .before .before .args .m) (c .before .loop .j) (c .loop-test .taken)
 
-module _ (c : tie.After-read-gate2 Inv-loop μ-loop Inv-rows μ-rows) where
-  first-is : c .before .before .before .before .read-gate .result ≡ gate (gates (c .before .before .before .before .before .before .before .before .before .before .before .before .before)) (c .before .before .before .before .before .before .rows .i)
-  first-is = c .before .before .before .before .read-gate .ensures ∙ sym (gate-in (c .before .before .before .before .before .before .before .before .before .before .before .before .before .args .b .now) (c .before .before .before .before .before .before .before .before .before .before .before .before .before .args .m) (c .before .before .before .before .before .before .rows .i) (c .before .before .before .before .before .rows-test .taken))
+module _ (c : tie.After-word2 Inv-loop μ-loop Inv-rows μ-rows) where
+  first-is : gateOf (c .before .before .before .before .word .result) ≡ gate (gates (c .before .before .before .before .before .before .before .before .before .before .before .before .before)) (c .before .before .before .before .before .before .rows .i)
+  first-is = c .before .before .before .before .word .ensures .1
 
-  second-is : c .read-gate2 .result ≡ gate (gates (c .before .before .before .before .before .before .before .before .before .before .before .before .before)) (c .before .before .loop .j)
-  second-is = c .read-gate2 .ensures ∙ sym (gate-in (c .before .before .before .before .before .before .before .before .before .before .before .before .before .args .b .now) (c .before .before .before .before .before .before .before .before .before .before .before .before .before .args .m) (c .before .before .loop .j) (c .before .loop-test .taken))
+  second-is : gateOf (c .word2 .result) ≡ gate (gates (c .before .before .before .before .before .before .before .before .before .before .before .before .before)) (c .before .before .loop .j)
+  second-is = c .word2 .ensures .1
 
 module _ (c : tie.After-may-change Inv-loop μ-loop Inv-rows μ-rows) where
   may-is : mayChange (gate (gates (c .before .before .before .before .before .before .before .before .before .before .before .before .before .before)) (c .before .before .before .before .before .before .before .rows .i)) (gate (gates (c .before .before .before .before .before .before .before .before .before .before .before .before .before .before)) (c .before .before .before .loop .j)) ≡ c .may-change .result
   may-is = ap₂ mayChange (sym (first-is (c .before))) (sym (second-is (c .before))) ∙ sym (c .may-change .ensures)
 
-module _ (c : tie.After-fits-pair Inv-loop μ-loop Inv-rows μ-rows) where
-  fits-is : fits (gate (gates (c .before .before .before .before .before .before .before .before .before .before .before .before .before .before .before .before)) (c .before .before .before .before .before .before .before .before .before .rows .i)) (gate (gates (c .before .before .before .before .before .before .before .before .before .before .before .before .before .before .before .before)) (c .before .before .before .before .before .loop .j)) ≡ c .fits-pair .result
-  fits-is = ap₂ fits (sym (first-is (c .before .before .before))) (sym (second-is (c .before .before .before))) ∙ sym (c .fits-pair .ensures)
+module _ (c : tie.After-fits-places Inv-loop μ-loop Inv-rows μ-rows) where
+  fits-is : fits (gate (gates (c .before .before .before .before .before .before .before .before .before .before .before .before .before .before .before .before)) (c .before .before .before .before .before .before .before .before .before .rows .i)) (gate (gates (c .before .before .before .before .before .before .before .before .before .before .before .before .before .before .before .before)) (c .before .before .before .before .before .loop .j)) ≡ c .fits-places .result
+  fits-is = sym (c .fits-places .ensures)
 
 -- row i has no pair, and says so
 module _ (c : tie.Left-loop Inv-loop μ-loop Inv-rows μ-rows) where
@@ -108,7 +109,7 @@ module _ (c : tie.Left-loop Inv-loop μ-loop Inv-rows μ-rows) where
       record { unfit = λ l. absurd (omega (arith, count (c .before .before .before .before .before .before .before .before .before .before .before .before))); shut = λ l. absurd (omega (arith, count (c .before .before .before .before .before .before .before .before .before .before .before .before))) })
       (λ w.
       let inner : tie.In-loop Inv-loop μ-loop Inv-rows μ-rows = record { before = c .before; loop-test = w .0 } in
-      let pair : tie.After-read-gate2 Inv-loop μ-loop Inv-rows μ-rows = record { before = inner; read-gate2 = w .1 } in
+      let pair : tie.After-word2 Inv-loop μ-loop Inv-rows μ-rows = record { before = inner; word2 = w .1 } in
       let may : tie.After-may-change Inv-loop μ-loop Inv-rows μ-rows = record { before = pair; may-change = w .2 } in
       let shut : mayChange (gate (gates (c .before .before .before .before .before .before .before .before .before .before .before .before)) (c .before .before .before .before .before .rows .i)) (gate (gates (c .before .before .before .before .before .before .before .before .before .before .before .before)) (c .before .loop .j)) ≡ false = may-is may ∙ not-true _ (w .3 .taken) in
       record { unfit = λ l. shut-unfit _ _ (row-gate (c .before .before .before .before)) (holds-gate _ _ (c .before .before .before .before .before .before .before .before .before .before .before .before .pre .0) _ l) shut; shut = λ l. shut })
@@ -138,8 +139,8 @@ rows-holds c =
       marks-len = refl;
     }
 
-read-gate-requires : tie.Need-read-gate-requires Inv-loop μ-loop Inv-rows μ-rows
-read-gate-requires c κs = (holds-fits _ _ (c .before .before .before .before .before .before .before .before .pre .0) _ (row-inside c), holds-lines _ _ (c .before .before .before .before .before .before .before .before .pre .0) _ (row-inside c))
+word-requires : tie.Need-word-requires Inv-loop μ-loop Inv-rows μ-rows
+word-requires c κs = (c .before .before .before .before .before .before .before .before .pre .0, c .rows-test .taken)
 
 mul-j : tie.Need-mul-j Inv-loop μ-loop Inv-rows μ-rows
 mul-j c = search needs
@@ -158,19 +159,14 @@ loop-holds c =
       len = refl;
     }
 
-read-gate-requires-2 : tie.Need-read-gate-requires-2 Inv-loop μ-loop Inv-rows μ-rows
-read-gate-requires-2 c κs = (holds-fits _ _ (c .before .before .before .before .before .before .before .before .before .before .before .before .pre .0) _ (place-inside c), holds-lines _ _ (c .before .before .before .before .before .before .before .before .before .before .before .before .pre .0) _ (place-inside c))
+word-requires-2 : tie.Need-word-requires-2 Inv-loop μ-loop Inv-rows μ-rows
+word-requires-2 c κs = (c .before .before .before .before .before .before .before .before .before .before .before .before .pre .0, c .loop-test .taken)
 
 may-change-requires : tie.Need-may-change-requires Inv-loop μ-loop Inv-rows μ-rows
-may-change-requires c κs =
-    let ok-i = holds-gate _ _ (c .before .before .before .before .before .before .before .before .before .before .before .before .before .pre .0) _ (row-inside (c .before .before .before .before .before)) in
-    let ok-j = holds-gate _ _ (c .before .before .before .before .before .before .before .before .before .before .before .before .before .pre .0) _ (place-inside (c .before)) in (
-      (rw (first-is c) (omega (arith, ok-i .op-high)), rw (first-is c) (omega (arith, ok-i .on-line))),
-      (rw (second-is c) (omega (arith, ok-j .op-high)), rw (second-is c) (omega (arith, ok-j .on-line))),
-    )
+may-change-requires c κs = (c .before .before .before .before .word .ensures .0, c .word2 .ensures .0)
 
-fits-pair-requires : tie.Need-fits-pair-requires Inv-loop μ-loop Inv-rows μ-rows
-fits-pair-requires c κs = search needs
+fits-places-requires : tie.Need-fits-places-requires Inv-loop μ-loop Inv-rows μ-rows
+fits-places-requires c κs = (c .before .before .before .before .before .before .before .before .before .before .before .before .before .before .before .pre .0, c .before .before .before .before .before .before .before .rows-test .taken, c .before .before .before .loop-test .taken)
 
 add-pass-stretches : tie.Need-add-pass-stretches Inv-loop μ-loop Inv-rows μ-rows
 add-pass-stretches c = omega (arith, c .before .before .before .before .before .before .loop-test .taken, c .before .before .before .before .before .before .before .before .before .before .before .before .before .before .before .before .before .before .pre .1 .0)
@@ -295,14 +291,14 @@ find-pair-spec =
     μ-rows
     next-row-requires
     rows-holds
-    read-gate-requires
+    word-requires
     mul-j
     slice-read-j
     cast-j
     loop-holds
-    read-gate-requires-2
+    word-requires-2
     may-change-requires
-    fits-pair-requires
+    fits-places-requires
     add-pass-stretches
     pass-stretches-requires
     loop-less

@@ -9,10 +9,10 @@ use Rattle.tidying.proofs.views.kind.Statement.{statement}
 use Rattle.tidying.proofs.views.kind.Tie as tie
 
 returns : tie.Need-returns
-returns c = sym (kind-none (c .before .args .w) (c .before .pre) (c .if1 .taken))
+returns c = sym (kind-none (c .before .args .w) (c .before .pre .lines) (c .if1 .taken))
 
 mark-controls-requires : tie.Need-mark-controls-requires
-mark-controls-requires c κs = c .before .pre
+mark-controls-requires c κs = c .before .pre .lines
 
 fold-marks-requires : tie.Need-fold-marks-requires
 fold-marks-requires c κs = search needs
@@ -23,7 +23,7 @@ shl-result c = search needs
 returns-2 : tie.Need-returns-2
 returns-2 c =
     rw (shifted-bit (c .fold-marks .result) (c .fold-marks .ensures .1))
-    (ap (λ (x : ℕ). 2 ^ x) (c .fold-marks .ensures .0 ∙ ap folded (c .before .mark-controls .ensures)) ∙ sym (kind-word (c .before .before .before .args .w) (c .before .before .before .pre) (λ e. omega (arith, e, c .before .before .if1 .left))))
+    (ap (λ (x : ℕ). 2 ^ x) (c .fold-marks .ensures .0 ∙ ap folded (c .before .mark-controls .ensures)) ∙ sym (kind-word (c .before .before .before .args .w) (c .before .before .before .pre .lines) (λ e. omega (arith, e, c .before .before .if1 .left))))
 
 pub kind-spec : {M : Type 1} → statement M
 kind-spec =

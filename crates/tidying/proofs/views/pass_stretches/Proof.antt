@@ -53,10 +53,10 @@ word-requires : tie.Need-word-requires Inv-loop μ-loop
 word-requires c κs = (c .before .before .before .before .pre .0 .0, omega (arith, count (c .before .before .before .before), row-inside (c .before .before .before .before)))
 
 against-requires : tie.Need-against-requires Inv-loop μ-loop
-against-requires c κs = (c .word .ensures .0, c .word .ensures .1, c .word .ensures .2)
+against-requires c κs = c .word .ensures .0
 
 kind-requires : tie.Need-kind-requires Inv-loop μ-loop
-kind-requires c κs = c .before .word .ensures .1
+kind-requires c κs = c .before .word .ensures .0
 
 loop-holds : tie.Need-loop-holds Inv-loop μ-loop
 loop-holds c =
@@ -94,7 +94,7 @@ loop-again : tie.Need-loop-again Inv-loop μ-loop
 loop-again c =
     let met = c .before .meets-none .ensures (not-false _ (c .if3 .left)) in
     let within : 16 * c .before .before .before .before .before .before .before .before .loop .s + 16 ≤ length (gatesIn (c .before .before .before .before .before .before .before .before .before .before .before .before .before .before .before .before .args .b .now) (c .before .before .before .before .before .before .before .before .before .before .before .before .before .before .before .before .args .m)) = rw (count (c .before .before .before .before .before .before .before .before .before .before .before .before .before .before .before .before)) (c .before .before .before .before .before .before .before .loop-test .taken) in
-    let same = c .before .before .before .before .before .before .before .before .before .before .before .word .ensures .3 in
+    let same = c .before .before .before .before .before .before .before .before .before .before .before .word .ensures .1 in
     record {
       marked = c .before .before .before .before .before .mark-stretch .ensures;
       clear =

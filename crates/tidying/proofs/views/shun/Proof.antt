@@ -13,16 +13,16 @@ use Rattle.tidying.proofs.views.shun.Tie as tie
 
 module _ (c : tie.After-mark-others) where
   total : 12 * c .before .mark-controls .result + 4 * c .mark-others .result ≡ shunned (gateOf (c .before .before .args .w)) + c .before .before .args .w / 65536 + 1103823438081
-  total = rw (c .before .mark-controls .ensures, c .mark-others .ensures) (shun-sum (c .before .before .args .w) (c .before .before .pre .0) (c .before .before .pre .1))
+  total = rw (c .before .mark-controls .ensures, c .mark-others .ensures) (shun-sum (c .before .before .args .w) (c .before .before .pre .small) (c .before .before .pre .lines))
 
   small : 12 * c .before .mark-controls .result + 4 * c .mark-others .result < 18446744073709551616
-  small = omega (arith, total, shunned-lt (c .before .before .args .w) (c .before .before .pre .0) (c .before .before .pre .1), c .before .before .pre .0)
+  small = omega (arith, total, shunned-lt (c .before .before .args .w) (c .before .before .pre .small) (c .before .before .pre .lines), c .before .before .pre .small)
 
 mark-controls-requires : tie.Need-mark-controls-requires
-mark-controls-requires c κs = c .pre .1
+mark-controls-requires c κs = c .pre .lines
 
 mark-others-requires : tie.Need-mark-others-requires
-mark-others-requires c κs = (c .before .pre .1, λ k l. rw (digit-of-zero 256 k (omega arith)) (omega arith))
+mark-others-requires c κs = (c .before .pre .lines, λ k l. rw (digit-of-zero 256 k (omega arith)) (omega arith))
 
 mul-result : tie.Need-mul-result
 mul-result c = rw (c .mark-controls .ensures) (omega (arith, marks-lt (c .before .args .w)))
@@ -42,7 +42,7 @@ sub-result-2 c = omega (arith, total c)
 returns : tie.Need-returns
 returns c =
     let e : 12 * c .before .mark-controls .result + 4 * c .mark-others .result - c .before .before .args .w / 65536 - 1103823438081 ≡ shunned (gateOf (c .before .before .args .w)) = omega (arith, total c) in
-    (e, rw e (shunned-lt (c .before .before .args .w) (c .before .before .pre .0) (c .before .before .pre .1)))
+    (e, rw e (shunned-lt (c .before .before .args .w) (c .before .before .pre .small) (c .before .before .pre .lines)))
 
 pub shun-spec : {M : Type 1} → statement M
 shun-spec =

@@ -34,10 +34,10 @@ word-requires : tie.Need-word-requires Inv-loop μ-loop
 word-requires c κs = (c .before .before .before .pre .0, omega (arith, c .loop-test .taken, c .before .before .before .pre .1))
 
 view-requires : tie.Need-view-requires Inv-loop μ-loop
-view-requires c κs = (c .word .ensures .0, c .word .ensures .1, c .word .ensures .2)
+view-requires c κs = c .word .ensures .0
 
 kind-requires : tie.Need-kind-requires Inv-loop μ-loop
-kind-requires c κs = c .before .word .ensures .1
+kind-requires c κs = c .before .word .ensures .0
 
 add-k : tie.Need-add-k Inv-loop μ-loop
 add-k c = search needs
@@ -49,7 +49,7 @@ loop-again : tie.Need-loop-again Inv-loop μ-loop
 loop-again c =
     let inside : c .before .before .before .before .before .before .args .x + c .before .before .before .before .loop .k < length (gatesIn (c .before .before .before .before .before .before .args .b .now) (c .before .before .before .before .before .before .args .m)) =
     rw (length-gates (c .before .before .before .before .before .before .args .b .now) (c .before .before .before .before .before .before .args .m)) (omega (arith, c .before .before .before .loop-test .taken, c .before .before .before .before .before .before .pre .1)) in
-    let same = c .before .before .word .ensures .3 in (
+    let same = c .before .before .word .ensures .1 in (
       rw (next (c .before .before .before .before .before .before .args .x) (c .before .before .before .before .loop .k), c .before .view .ensures ∙ ap viewOf same, c .kind .ensures ∙ ap kindOf same)
           (passed-next _ _ _ _ _ (c .before .before .before .before .before .before .pre .0 .gates) inside (c .before .before .before .before .loop .inv .0)),
       omega (arith, c .before .before .before .loop-test .taken),

@@ -17,7 +17,11 @@ module _ (c : tie.Start) where
   inside : c .args .k < length (gatesIn (c .args .b .now) (c .args .m))
   inside = rw (length-gates (c .args .b .now) (c .args .m)) (c .pre .1)
 
--- the target's byte is the gate's target
+-- two bytes of the gate
+operator-is : (w : ℕ) → gateOf w .operator ≡ byte 0 w
+unfolding gateOf
+operator-is w = refl
+
 target-is : (w : ℕ) → gateOf w .target ≡ byte 1 w
 unfolding gateOf
 target-is w = refl
@@ -34,9 +38,12 @@ returns c =
     let same : gateOf (c .word-at .result) ≡ gate (gatesIn (c .before .before .args .b .now) (c .before .before .args .m)) (c .before .before .args .k) =
     sym (word-gate (c .before .before .args .b .now) (8 * c .before .before .args .k) (c .word-at .result) (c .word-at .ensures)) ∙ sym (gate-in (c .before .before .args .b .now) (c .before .before .args .m) (c .before .before .args .k) (c .before .before .pre .1)) in
     let ok = holds-gate _ _ (c .before .before .pre .0) _ (inside (c .before .before)) in (
-      c .word-at .ensures .low,
-      record { each = λ k l. rw (control-byte (c .before .before .args .b .now) (8 * c .before .before .args .k) (c .word-at .result) (c .word-at .ensures) k l) (holds-lines _ _ (c .before .before .pre .0) _ (inside (c .before .before)) k l) },
-      omega (arith, target-is (c .word-at .result), ap (λ (g : Gate). g .target) same, ok .on-line),
+      record {
+        small = c .word-at .ensures .low;
+        lines = record { each = λ k l. rw (control-byte (c .before .before .args .b .now) (8 * c .before .before .args .k) (c .word-at .result) (c .word-at .ensures) k l) (holds-lines _ _ (c .before .before .pre .0) _ (inside (c .before .before)) k l) };
+        op-high = omega (arith, operator-is (c .word-at .result), ap (λ (g : Gate). g .operator) same, ok .op-high);
+        on-line = omega (arith, target-is (c .word-at .result), ap (λ (g : Gate). g .target) same, ok .on-line);
+      },
       same,
     )
 
