@@ -12,3 +12,5 @@ pub mod Runs
 pub mod Turns
 pub mod Tallies
 pub mod Faults
+pub mod Exchanges
+pub mod Gathers

@@ -2,3 +2,4 @@ pub mod Cascades
 pub mod Prices
 pub mod Answers
 pub mod Planes
+pub mod Rows

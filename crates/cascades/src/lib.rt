@@ -15,6 +15,7 @@ mod entries;
 pub mod lengths;
 mod planes;
 mod prices;
+mod rows;
 pub mod scan;
 mod undo;
 mod untouched;

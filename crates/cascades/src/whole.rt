@@ -5,6 +5,7 @@ ghost use lib.ListN.{length};
 ghost use Rattle.cascades.specs.Cascades.{Whole, gatesOf, tableOf};
 use crate::entries;
 use crate::planes;
+use crate::rows;
 use crate::untouched;
 
 // The table of a cascade that was checked, with room for so many blocks of planes.
@@ -54,6 +55,8 @@ pub fn write_table(lines: u8, cascade: &[u8], m: usize, table: &mut [u16])
 {
     if lines < 6 {
         write_narrow(lines, cascade, m, table);
+    } else if rows::quicker(cascade, m) {
+        rows::write(lines, cascade, m, table);
     } else {
         write_wide(lines, cascade, m, table);
     }
