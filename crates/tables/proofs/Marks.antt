@@ -16,10 +16,8 @@ use Rattle.ranges.specs.Ranges.{some, first}
 use Rattle.ranges.proofs.Tests.{some-snoc}
 use Rattle.ranges.proofs.Searches.{first-more, first-hit, first-ends}
 use Rattle.tables.specs.Tables.{repeated, firstRepeated}
-
--- x stands before entry i
-abbrev pub stands : List ℕ → ℕ → ℕ → Bool
-stands t x i = some (λ j. eqb (getD t j 0) x) 0 i
+use Rattle.tables.specs.Reached.{stands}
+use Rattle.tables.proofs.Reached.{stands-more}
 
 -- what a pass knows at entry i
 pub record Marked (t : List ℕ) (m : ℕ) (marks : List Bool) (i : ℕ) : Type 0 where
@@ -32,9 +30,6 @@ pub marked-none : (t : List ℕ) (m : ℕ) → Marked t m (replicate m false) 0
 unfolding some firstRepeated
 marked-none t m =
     record { within = omega arith; size = length-replicate m false; mark = λ x lt. getD-replicate m x false false lt; left = rw sub-zero }
-
-stands-more : (t : List ℕ) (x i : ℕ) → stands t x (i + 1) ≡ (stands t x i || eqb (getD t i 0) x)
-stands-more t x i = rw (add-one i) ((rw (zero-add i) at (some-snoc (λ j. eqb (getD t j 0) x) 0 i)))
 
 module _ (t : List ℕ) (m : ℕ) (marks : List Bool) (i : ℕ) (w : Marked t m marks i) (lt : i < length t) (small : getD t i 0 < m) where
   -- the mark of an entry's value says whether it is repeated

@@ -1,3 +1,4 @@
 pub mod Tables
 pub mod Permutations
+pub mod Reached
 pub mod Answers

@@ -1,9 +1,83 @@
-// Searches through the entries of a table: one pass each.
+// Passes over the entries of a table, one each.
 ghost use mathlib.Core.Path.{_≡_};
-ghost use mathlib.Core.Bool.{false};
+ghost use mathlib.Core.Bool.{false, cond};
 ghost use Prim.Native.Nat.{ℕ, _≤_, _<_};
 ghost use lib.ListN.{length, getD, replicate};
+ghost use Rattle.digits.specs.Digits.{digit};
 ghost use Rattle.tables.specs.Tables.{firstLarge, firstRepeated};
+ghost use Rattle.tables.specs.Reached.{stands, Points};
+
+// The larger of two numbers.
+fn larger(x: u16, y: u16) -> u16
+    ensures { λ r. ⌜ (x ≤ r) × (y ≤ r) × ((m : ℕ) → x < m → y < m → r < m) ⌝ }
+{
+    if x < y {
+        return y;
+    }
+    x
+}
+
+// The largest entry, or 0. No branch hangs on an entry, so the compiler takes many of them at once.
+pub fn largest(table: &[u16]) -> u16
+    ensures { λ r. ⌜ ((i : ℕ) → i < length (now (table .entry)) → getD (now (table .entry)) i 0 ≤ r) × ((m : ℕ) → 0 < m → ((i : ℕ) → i < length (now (table .entry)) → getD (now (table .entry)) i 0 < m) → r < m) ⌝ }
+{
+    let mut most: u16 = 0;
+    let mut i: usize = 0;
+    while i < table.len() {
+        most = larger(most, table[i]);
+        i += 1;
+    }
+    most
+}
+
+// The number whose bit q says whether q stands in the table.
+pub fn values(table: &[u16]) -> u64
+    requires { ⌜ ((i : ℕ) → i < length (now table) → getD (now table) i 0 < 27) ⌝ }
+    ensures { λ r. ⌜ ((q : ℕ) → q < 27 → digit 2 q r ≡ cond (stands (now (table .entry)) q (length (now (table .entry)))) 1 0) ⌝ }
+{
+    let mut bits: u64 = 0;
+    let mut i: usize = 0;
+    while i < table.len() {
+        bits = bits | (1 << table[i]);
+        i += 1;
+    }
+    bits
+}
+
+// The row of each value goes to the value's place; values that do not stand in the table keep 65,535.
+pub fn invert(table: &[u16], inverse: &mut [u16])
+    requires { ⌜ ((i : ℕ) → i < length (now table) → getD (now table) i 0 < length (now table)) ⌝ }
+    requires { ⌜ length (now table) ≤ 729 ⌝ }
+    requires { ⌜ now inverse ≡ replicate (length (now table)) 65535 ⌝ }
+    ensures { λ _. ⌜ Points (now (table .entry)) (now (inverse .exit)) (length (now (table .entry))) ⌝ }
+{
+    let mut i: usize = 0;
+    while i < table.len() {
+        inverse[table[i] as usize] = i as u16;
+        i += 1;
+    }
+}
+
+// 1 for a number from 32,768 up, and 0 for one below.
+fn high(x: u16) -> u16
+    ensures { λ r. ⌜ (r ≤ 1) × (r ≡ 0 → x < 32768) × (x < 32768 → r ≡ 0) ⌝ }
+{
+    x / 32768
+}
+
+// How many values were not reached. Here too no branch hangs on an entry.
+pub fn unreached(inverse: &[u16]) -> u16
+    requires { ⌜ length (now inverse) ≤ 729 ⌝ }
+    ensures { λ r. ⌜ (r ≡ 0 → (q : ℕ) → q < length (now (inverse .entry)) → getD (now (inverse .entry)) q 0 < 32768) × (((q : ℕ) → q < length (now (inverse .entry)) → getD (now (inverse .entry)) q 0 < 32768) → r ≡ 0) ⌝ }
+{
+    let mut left: u16 = 0;
+    let mut q: usize = 0;
+    while q < inverse.len() {
+        left = left + high(inverse[q]);
+        q += 1;
+    }
+    left
+}
 
 // The first entry that is no pattern of n lines, or the table's length.
 pub fn first_large(n: usize, table: &[u16]) -> usize

@@ -1,0 +1,225 @@
+-- A table reaches every pattern exactly if it is a permutation, since it has as many entries as there are patterns (`onto-below`). So what points back from
+-- every pattern is its inverse (`inverted`), and a number with a bit for each of its values tells (`all-standing`). Assumes nothing.
+use mathlib.Core.Path.{_≡_, refl, sym, ap, _∙_}
+use mathlib.Core.Bool.{Bool, true, false, cond, _||_}
+use mathlib.Core.List.{List}
+use mathlib.Core.Logic.{_⊎_}
+use Prim.Native.Nat.{ℕ, zero, suc, _+_, _*_, _%_, _^_, _≤_, _<_}
+use native.Mathlib.Nat.{zero-add, pow-le-pow-right}
+use native.Mathlib.Numerals.{add-one}
+use native.Mathlib.Decide.{ℕ-discrete}
+use native.Mathlib.Omega.{arith}
+use lib.Bits.{bitOr}
+use lib.Dec.{eqb}
+use lib.ListN.{length, getD, set, replicate, length-set, length-replicate, getD-replicate}
+use lib.Seq.{getD-set-same, getD-set-other}
+use borrow.Author.Tests.{eqb-true, eq-eqb, ne-eqb}
+use borrow.Author.Count.{below-more}
+use Rattle.ranges.specs.Ranges.{some, first, every}
+use Rattle.ranges.proofs.Bools.{clash}
+use Rattle.ranges.proofs.Counts.{lt-or-le}
+use Rattle.ranges.proofs.Tests.{every-below, some-not, some-snoc}
+use Rattle.ranges.proofs.Searches.{found}
+use Rattle.digits.specs.Digits.{digit}
+use Rattle.digits.proofs.Bits.{digit-or}
+use Rattle.tables.specs.Permutations.{Permutation}
+use Rattle.tables.specs.Reached.{stands, Points, Inverted}
+
+-- ---- a map of the numbers below m into themselves that takes no two to the same reaches them all
+
+record Reach (m : ℕ) (f : ℕ → ℕ) (y : ℕ) : Type 0 where
+  from : ℕ
+  below : from < m
+  to : f from ≡ y
+
+-- f on the numbers below k: what went to k goes where k went
+module _ (f : ℕ → ℕ) (k : ℕ) where
+  unfoldable pulled : ℕ → ℕ
+  pulled p = cond (eqb (f p) k) (f k) (f p)
+
+  pulled-hit : (p : ℕ) → f p ≡ k → pulled p ≡ f k
+  unfolding pulled
+  pulled-hit p e = rw (eq-eqb (f p) k e)
+
+  pulled-miss : (p : ℕ) → (f p ≡ k → ⊥) → pulled p ≡ f p
+  unfolding pulled
+  pulled-miss p ne = rw (ne-eqb (f p) k ne)
+
+  module _ (within : (p : ℕ) → p < suc k → f p < suc k) (apart : (p q : ℕ) → p < suc k → q < suc k → f p ≡ f q → p ≡ q) where
+    -- the last one differs from those below it
+    last-differs : (p : ℕ) → p < k → f p ≡ f k → ⊥
+    last-differs p lt e = let z = apart p k (omega arith) (omega arith) e in omega arith
+
+    last-lt : (p : ℕ) → p < k → f p ≡ k → f k < k
+    last-lt p lt e =
+        let l = within k (omega arith) in
+        let ne : f k ≡ k → ⊥ = λ z. last-differs p lt (e ∙ sym z) in omega arith
+
+    pulled-within : (p : ℕ) → p < k → pulled p < k
+    pulled-within p lt = go (ℕ-discrete (f p) k)
+      where
+        go : Dec (f p ≡ k) → pulled p < k
+        go (yes e) = rw (pulled-hit p e) (last-lt p lt e)
+        go (no ne) = let l = within p (omega arith) in rw (pulled-miss p ne) (omega arith)
+
+    pulled-apart : (p q : ℕ) → p < k → q < k → pulled p ≡ pulled q → p ≡ q
+    pulled-apart p q lp lq same = go (ℕ-discrete (f p) k) (ℕ-discrete (f q) k)
+      where
+        go : Dec (f p ≡ k) → Dec (f q ≡ k) → p ≡ q
+        go (yes e) (yes d) = apart p q (omega arith) (omega arith) (e ∙ sym d)
+        go (yes e) (no d) = absurd (last-differs q lq (sym (pulled-miss q d) ∙ sym same ∙ pulled-hit p e))
+        go (no e) (yes d) = absurd (last-differs p lp (sym (pulled-miss p e) ∙ same ∙ pulled-hit q d))
+        go (no e) (no d) = apart p q (omega arith) (omega arith) (sym (pulled-miss p e) ∙ same ∙ pulled-miss q d)
+
+    -- so if those below k reach all below k, then with k they reach all up to k
+    pulled-onto : ((z : ℕ) → z < k → Reach k pulled z) → (y : ℕ) → y < suc k → Reach (suc k) f y
+    pulled-onto before y lt = go (ℕ-discrete y (f k)) (ℕ-discrete y k)
+      where
+        wider : (p : ℕ) → p < k → f p ≡ y → Reach (suc k) f y
+        wider p l e = record { from = p; below = omega arith; to = e }
+
+        by-last : y ≡ k → (x : Reach k pulled (f k)) → Dec (f (x .from) ≡ k) → Reach (suc k) f y
+        by-last e x (yes d) = wider (x .from) (x .below) (d ∙ sym e)
+        by-last e x (no d) = absurd (last-differs (x .from) (x .below) (sym (pulled-miss (x .from) d) ∙ x .to))
+
+        itself : (y ≡ f k → ⊥) → (x : Reach k pulled y) → Dec (f (x .from) ≡ k) → Reach (suc k) f y
+        itself ne x (yes d) = absurd (ne (sym (x .to) ∙ pulled-hit (x .from) d))
+        itself ne x (no d) = wider (x .from) (x .below) (sym (pulled-miss (x .from) d) ∙ x .to)
+
+        go : Dec (y ≡ f k) → Dec (y ≡ k) → Reach (suc k) f y
+        go (yes e) d = record { from = k; below = omega arith; to = sym e }
+        go (no ne) (yes e) =
+            let l = within k (omega arith) in
+            let nk : f k ≡ k → ⊥ = λ z. ne (e ∙ sym z) in
+            let x = before (f k) (omega arith) in by-last e x (ℕ-discrete (f (x .from)) k)
+        go (no ne) (no nk) = let x = before y (omega arith) in itself ne x (ℕ-discrete (f (x .from)) k)
+
+onto-below : (m : ℕ) (f : ℕ → ℕ) → ((p : ℕ) → p < m → f p < m) → ((p q : ℕ) → p < m → q < m → f p ≡ f q → p ≡ q) → (y : ℕ) → y < m → Reach m f y
+onto-below zero f within apart y lt = absurd (omega arith)
+onto-below (suc k) f within apart y lt =
+    pulled-onto f k within apart (onto-below k (pulled f k) (pulled-within f k within apart) (pulled-apart f k within apart)) y lt
+
+-- ---- a table whose entries are patterns, and which has each of them at a known place
+
+module _ (n : ℕ) (t : List ℕ) (f : ℕ → ℕ) (size : length t ≡ 3 ^ n) (below : (p : ℕ) → p < 3 ^ n → getD t p 0 < 3 ^ n)
+    (there : (q : ℕ) → q < 3 ^ n → (f q < 3 ^ n) × (getD t (f q) 0 ≡ q)) where
+  place-back : (p : ℕ) → p < 3 ^ n → f (getD t p 0) ≡ p
+  place-back p lp =
+      let x = onto-below (3 ^ n) f (λ q lq. there q lq .0) (λ q s lq ls e. sym (there q lq .1) ∙ ap (λ (j : ℕ). getD t j 0) e ∙ there s ls .1) p lp in
+      ap f (ap (λ (j : ℕ). getD t j 0) (sym (x .to)) ∙ there (x .from) (x .below) .1) ∙ x .to
+
+  place-permutation : Permutation 3 n t
+  place-permutation = record { size = size; within = below; apart = λ p q lp lq e. sym (place-back p lp) ∙ ap f e ∙ place-back q lq }
+
+-- ---- the pass that points back
+
+high : (x : ℕ) → x ≡ 65535 → x < 32768 → ⊥
+high x e lt = omega arith
+
+pub points-none : (t : List ℕ) → Points t (replicate (length t) 65535) 0
+points-none t =
+    record {
+      size = length-replicate (length t) 65535;
+      place = λ q lt low. absurd (high _ (getD-replicate (length t) q 65535 0 lt) low);
+      reached = λ p lt. absurd (omega arith);
+    }
+
+pub points-more : (t v : List ℕ) (i : ℕ) → i < length t → i < 729 → getD t i 0 < length t → Points t v i → Points t (set v (getD t i 0) i) (i + 1)
+points-more t v i lt few small w =
+    record {
+      size = length-set v (getD t i 0) i ∙ w .size;
+      place = λ q lq low. place q lq low (ℕ-discrete q (getD t i 0));
+      reached = below-more (λ (p : ℕ). getD (set v (getD t i 0) i) (getD t p 0) 0 < 32768) i (λ p lp. still p lp (ℕ-discrete (getD t p 0) (getD t i 0))) now-reached;
+    }
+  where
+    here : getD (set v (getD t i 0) i) (getD t i 0) 0 ≡ i
+    here = getD-set-same v (getD t i 0) i 0 (omega (arith, w .size))
+
+    now-reached : getD (set v (getD t i 0) i) (getD t i 0) 0 < 32768
+    now-reached = rw here (omega arith)
+
+    place : (q : ℕ) → q < length t → getD (set v (getD t i 0) i) q 0 < 32768 → Dec (q ≡ getD t i 0)
+        → (getD (set v (getD t i 0) i) q 0 < i + 1) × (getD t (getD (set v (getD t i 0) i) q 0) 0 ≡ q)
+    place q lq low (yes e) = rw (e, here) (omega arith, refl)
+    place q lq low (no ne) =
+        let o = getD-set-other v (getD t i 0) q i 0 ne in
+        let s = w .place q lq (omega arith) in rw o (omega (arith, s .0), s .1)
+
+    still : (p : ℕ) → p < i → Dec (getD t p 0 ≡ getD t i 0) → getD (set v (getD t i 0) i) (getD t p 0) 0 < 32768
+    still p lp (yes e) = rw e now-reached
+    still p lp (no ne) = rw (getD-set-other v (getD t i 0) (getD t p 0) i 0 ne) (w .reached p lp)
+
+-- all are reached: the table is a permutation, and what points back is its inverse
+pub inverted : (n : ℕ) (t v : List ℕ) → length t ≡ 3 ^ n → ((p : ℕ) → p < length t → getD t p 0 < length t) → Points t v (length t)
+    → ((q : ℕ) → q < length v → getD v q 0 < 32768) → Inverted n t v
+inverted n t v size below w all =
+    let within : (p : ℕ) → p < 3 ^ n → getD t p 0 < 3 ^ n = λ p lp. omega (arith, size, below p (omega (arith, size))) in
+    let there : (q : ℕ) → q < 3 ^ n → (getD v q 0 < 3 ^ n) × (getD t (getD v q 0) 0 ≡ q) =
+    λ q lq. let s = w .place q (omega (arith, size)) (all q (omega (arith, size, w .size))) in (omega (arith, size, s .0), s .1) in
+    record {
+      perm = place-permutation n t (λ q. getD v q 0) size within there;
+      size = w .size ∙ size;
+      back = place-back n t (λ q. getD v q 0) size within there;
+    }
+
+-- and a permutation reaches all
+pub all-reached : (n : ℕ) (t v : List ℕ) → Permutation 3 n t → Points t v (length t) → (q : ℕ) → q < length v → getD v q 0 < 32768
+all-reached n t v perm w q lq =
+    let x = onto-below (3 ^ n) (λ p. getD t p 0) (perm .within) (perm .apart) q (omega (arith, perm .size, w .size)) in
+    rw (x .to) at (w .reached (x .from) (omega (arith, perm .size, x .below)))
+
+-- ---- the number of a table's values
+
+one-bit : (x q : ℕ) → x < 27 → q < 27 → digit 2 q ((1 * 2 ^ x) % 18446744073709551616) ≡ cond (eqb x q) 1 0
+unfolding every digit
+one-bit x q lx lq =
+    eqb-true _ _
+    (every-below (λ q. eqb (digit 2 q ((1 * 2 ^ x) % 18446744073709551616)) (cond (eqb x q) 1 0)) 27
+    (every-below (λ x. every (λ q. eqb (digit 2 q ((1 * 2 ^ x) % 18446744073709551616)) (cond (eqb x q) 1 0)) 0 27) 27 refl x lx) q lq)
+
+or-bits : (a b : Bool) → bitOr (cond a 1 0) (cond b 1 0) ≡ cond (a || b) 1 0
+or-bits true true = refl
+or-bits true false = refl
+or-bits false true = refl
+or-bits false false = refl
+
+pub stands-more : (t : List ℕ) (q i : ℕ) → stands t q (i + 1) ≡ (stands t q i || eqb (getD t i 0) q)
+stands-more t q i = rw (add-one i) ((rw (zero-add i) at (some-snoc (λ j. eqb (getD t j 0) q) 0 i)))
+
+-- bits has bit q exactly if q stands before entry i
+abbrev pub Bits : List ℕ → ℕ → ℕ → Type 0
+Bits t bits i = (q : ℕ) → q < 27 → digit 2 q bits ≡ cond (stands t q i) 1 0
+
+pub bits-none : (t : List ℕ) → Bits t 0 0
+unfolding some every digit
+bits-none t q lt = eqb-true _ _ (every-below (λ q. eqb (digit 2 q 0) 0) 27 refl q lt)
+
+pub bits-more : (t : List ℕ) (bits i : ℕ) → getD t i 0 < 27 → Bits t bits i → Bits t (bitOr bits ((1 * 2 ^ getD t i 0) % 18446744073709551616)) (i + 1)
+bits-more t bits i small w q lt =
+    digit-or 1 q bits ((1 * 2 ^ getD t i 0) % 18446744073709551616)
+    ∙ rw (w q lt, one-bit (getD t i 0) q small lt, stands-more t q i) (or-bits (stands t q i) (eqb (getD t i 0) q))
+
+pub patterns-few : (n : ℕ) → n ≤ 3 → 3 ^ n ≤ 27
+patterns-few n few = pow-le-pow-right {n = 3} (omega arith) {i = n} {j = 3} few
+
+-- ---- a table in which every pattern stands is a permutation
+
+standing-first : (t : List ℕ) (m q : ℕ) → stands t q m ≡ true → (first (λ j. eqb (getD t j 0) q) 0 m < m) × (getD t (first (λ j. eqb (getD t j 0) q) 0 m) 0 ≡ q)
+standing-first t m q e = go (lt-or-le at m)
+  where
+    at : ℕ
+    at = first (λ j. eqb (getD t j 0) q) 0 m
+
+    go : (at < m) ⊎ (m ≤ at) → (at < m) × (getD t at 0 ≡ q)
+    go (_⊎_.inl l) = (l, eqb-true (getD t at 0) q (found (λ j. eqb (getD t j 0) q) 0 m .hit (omega arith)))
+    go (_⊎_.inr l) = clash (stands t q m) e (some-not (λ j. eqb (getD t j 0) q) 0 m (λ k le lk. found (λ j. eqb (getD t j 0) q) 0 m .before k le (omega arith)))
+
+pub all-standing : (n : ℕ) (t : List ℕ) → n ≤ 3 → length t ≡ 3 ^ n → ((p : ℕ) → p < length t → getD t p 0 < length t) → (bits : ℕ) → Bits t bits (length t)
+    → ((q : ℕ) → q < 3 ^ n → digit 2 q bits ≡ 1) → Permutation 3 n t
+all-standing n t few size below bits w all =
+    place-permutation n t (λ q. first (λ j. eqb (getD t j 0) q) 0 (3 ^ n)) size (λ p lp. omega (arith, size, below p (omega (arith, size))))
+    (λ q lq. standing-first t (3 ^ n) q (rw size at (stood (stands t q (length t)) (sym (w q (omega (arith, patterns-few n few))) ∙ all q lq))))
+  where
+    stood : (b : Bool) → _≡_ {A = ℕ} (cond b 1 0) 1 → b ≡ true
+    stood true e = refl
+    stood false e = absurd (omega arith)
