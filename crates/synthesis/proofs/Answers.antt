@@ -1,12 +1,15 @@
 -- The cases of the answer of synthesis, and what each leaves in the room. Assumes nothing.
 use mathlib.Core.Path.{_≡_, sym, ap, _∙_}
+use mathlib.Core.Bool.{true, false}
 use mathlib.Core.List.{List, [], _∷_}
+use mathlib.Core.Logic.{_⊎_}
 use Prim.Native.Nat.{ℕ, _/_, _≤_, _<_}
 use native.Mathlib.Omega.{arith}
 use lib.ListN.{length}
 use borrow.Author.Tests.{lt-ltb, le-ltb}
-use Rattle.card.specs.Card.{Answer, Answer.accepted, Answer.refused, laid}
-use Rattle.card.proofs.Cards.{refusing-yes, refusing-no, after-accepted, after-refused}
+use Rattle.ranges.proofs.Bools.{decide}
+use Rattle.card.specs.Card.{Answer, Answer.accepted, Answer.refused, linesOk, laid}
+use Rattle.card.proofs.Cards.{no-lines, lines-are, refusing-yes, refusing-no, after-accepted, after-refused}
 use Rattle.tables.specs.Tables.{checkTableAnswer}
 use Rattle.tables.proofs.Accepts.{checked-refused, checked-accepted}
 use Rattle.cascades.specs.Cascades.{bytesOf}
@@ -20,6 +23,15 @@ module _ (n : ℕ) (t room : List ℕ) where
   refuses : (k p : ℕ) → synthesizeAnswer n t (length room) ≡ refused k p → Leaves n t room (refused k p) room
   unfolding synthesizeRoom
   refuses k p e = (sym e, sym (after-refused _ k p _ room e))
+
+  -- 1
+  pub leaves-lines : (1 ≤ n → n ≤ 6 → ⊥) → Leaves n t room (refused 1 0) room
+  unfolding synthesizeAnswer
+  leaves-lines out = refuses 1 0 (no-lines n _ (go (decide (linesOk n))))
+    where
+      go : (linesOk n ≡ true) ⊎ (linesOk n ≡ false) → linesOk n ≡ false
+      go (_⊎_.inl ok) = let l = lines-are n ok in absurd (out (l .0) (l .1))
+      go (_⊎_.inr bad) = bad
 
   -- 1 2 3 4
   pub leaves-checked : (k p : ℕ) → refused k p ≡ checkTableAnswer n t → Leaves n t room (refused k p) room

@@ -14,11 +14,12 @@ use Rattle.digits.proofs.Digits.{digit-lt, digit-high, digit-put-same, put-same
 use Rattle.digits.proofs.Sizes.{three-pos, patterns-most}
 use Rattle.gates.specs.declared.Gate.{Gate}
 use Rattle.gates.specs.Gates.{applied}
+use Rattle.tables.specs.Reached.{Inverted}
 use Rattle.procedure.specs.Procedure.{State, adding, digitStep, rowSteps, rows, settled, cascadeFor}
 use Rattle.procedure.proofs.Steps.{begun, step-same, step-other, row-next, row-grows, rows-next, rows-grow}
 use Rattle.procedure.proofs.Families.{Asked}
 use Rattle.procedure.proofs.Settles.{entry-after, permutation-after}
-use Rattle.procedure.proofs.Inverses.{inverse-size}
+use Rattle.procedure.proofs.Inverses.{inverse-size, inverse-only}
 use Rattle.procedure.proofs.Swaps.{other-lt, row-lt, table-stores, inverse-stores}
 use Rattle.synthesis.specs.Synthesis.{gateFor, synthesized}
 use Rattle.synthesis.specs.Steps.{stepFrom, rowFrom, rowsFrom, Paired, Reached}
@@ -33,6 +34,10 @@ pub record Sized (n : ℕ) (t v : List ℕ) : Type 0 where
 pub sized : (n : ℕ) (t v : List ℕ) → Paired n t v → Sized n t v
 sized n t v w =
     record { few = patterns-most n (w .lines); table = w .perm .size; inverse = ap length (w .inverse) ∙ inverse-size 3 n t three-pos (w .perm) }
+
+-- the inverse that a check leaves
+pub paired : (n : ℕ) (t v : List ℕ) → n ≤ 6 → Inverted n t v → Paired n t v
+paired n t v lines w = record { lines = lines; perm = w .perm; inverse = inverse-only 3 n t three-pos (w .perm) v (w .size) (w .back) }
 
 -- a pass over the rows of such a pair leaves none out, and keeps their sizes
 pub row-below : (n i : ℕ) (t v : List ℕ) → Paired n t v → i < length t → i < 3 ^ n
@@ -190,3 +195,13 @@ module _ (n i : ℕ) (t t′ v′ : List ℕ) (at : Reached n (rowsFrom n i t) t
             ∙ rw (add-one i) (sym (ap (λ (z : State Gate). z .table) (rows-next 3 applied gateFor n i (begun t))));
         pair = w .pair;
       }
+
+-- where every entry stands right, nothing is found
+module _ (n : ℕ) (t : List ℕ) (size : length t ≡ 3 ^ n) (right : (p : ℕ) → p < length t → getD t p 0 ≡ p) where
+  rows-right : (i : ℕ) → i ≤ 3 ^ n → rowsFrom n i t ≡ begun t
+  unfolding rows
+  rows-right zero le = refl
+  rows-right (suc i) le = ap (rowSteps 3 applied gateFor n i n) (rows-right i (omega arith)) ∙ row-settled n i t (right i (omega (arith, size))) n
+
+  pub identity-none : synthesized n t ≡ []
+  identity-none = sym (rows-all n (3 ^ n) t refl) ∙ ap (λ (z : State Gate). z .found) (rows-right (3 ^ n) (omega arith))

@@ -23,7 +23,7 @@ use Rattle.synthesis.specs.Synthesis.{gateFor, synthesized, bound}
 use Rattle.synthesis.proofs.Controls.{is-gate}
 use Rattle.synthesis.proofs.Ternary.{ternary}
 
--- the room asked grows with the lines: at most 284 records on four lines, and 4,010 on six
+-- the room asked grows with the lines: at most 4,010 records on six
 bound-grows : (n m : ℕ) → n ≤ suc m → bound n ≤ bound (suc m)
 unfolding bound
 bound-grows zero m le = omega arith
@@ -36,10 +36,6 @@ bound-grows (suc k) m le =
 
     numbers : (x y P Q : ℕ) → x ≤ y → P ≤ Q → x + P - (P - 1) / 2 ≤ y + Q - (Q - 1) / 2
     numbers x y P Q h l = omega arith
-
-pub bound-few : (n : ℕ) → n ≤ 4 → bound n ≤ 284
-unfolding bound
-bound-few n le = bound-grows n 3 le
 
 pub bound-most : (n : ℕ) → n ≤ 6 → bound n ≤ 4010
 unfolding bound

@@ -1,28 +1,23 @@
 // The pass over all rows, which finds the gates' words, and the pass that writes them out.
 // The first works in arrays of its own, since a row uses the table up, and the room may be written only where the cascade will stand.
 ghost use mathlib.Core.Path.{_≡_};
-ghost use Prim.Native.Nat.{_+_, _*_, _≤_};
-ghost use lib.ListN.{length};
+ghost use mathlib.Core.Bool.{true};
+ghost use Prim.Native.Nat.{ℕ, _+_, _*_, _^_, _≤_, _<_};
+ghost use lib.ListN.{length, getD};
 ghost use lib.Seq.{sets};
 ghost use Rattle.card.specs.Card.{laid};
-ghost use Rattle.tables.specs.Permutations.{Permutation};
 ghost use Rattle.cascades.specs.Cascades.{bytesOf};
 ghost use Rattle.synthesis.specs.Synthesis.{synthesized};
 ghost use Rattle.synthesis.specs.Steps.{Paired, noneFrom, Spreads, bytesOfWord, bytesOfWords, Lays};
 
-// The given table, copied, and its inverse.
-fn prepare(n: usize, given: &[u16], table: &mut [u16], inverse: &mut [u16])
-    requires { ⌜ n ≤ 6 ⌝ }
-    requires { ⌜ Permutation 3 n (now given) ⌝ }
+// The given table, copied.
+fn copy(given: &[u16], table: &mut [u16])
     requires { ⌜ length (now table) ≡ length (now given) ⌝ }
-    requires { ⌜ length (now inverse) ≡ length (now given) ⌝ }
-    ensures { λ _. ⌜ (now (table .exit) ≡ now (given .entry)) × Paired n (now (table .exit)) (now (inverse .exit)) ⌝ }
+    ensures { λ _. ⌜ now (table .exit) ≡ now (given .entry) ⌝ }
 {
     let mut p: usize = 0;
     while p < given.len() {
-        let q = given[p];
-        table[p] = q;
-        inverse[q as usize] = p as u16;
+        table[p] = given[p];
         p += 1;
     }
 }
@@ -81,60 +76,108 @@ fn put_words(words: &[u64], room: &mut [u8])
 fn find_in(
     n: usize,
     given: &[u16],
-    spread: &mut [u64],
-    table: &mut [u16],
     inverse: &mut [u16],
+    table: &mut [u16],
+    spread: &mut [u64],
     words: &mut [u64],
 ) -> usize
-    requires { ⌜ n ≤ 6 ⌝ }
-    requires { ⌜ Permutation 3 n (now given) ⌝ }
-    requires { ⌜ length (now spread) ≡ length (now given) ⌝ }
+    requires { ⌜ 1 ≤ n ⌝ }
+    requires { ⌜ Paired n (now given) (now inverse) ⌝ }
     requires { ⌜ length (now table) ≡ length (now given) ⌝ }
-    requires { ⌜ length (now inverse) ≡ length (now given) ⌝ }
+    requires { ⌜ length (now spread) ≡ length (now given) ⌝ }
     requires { ⌜ length (synthesized n (now given)) ≤ length (now words) ⌝ }
     ensures { λ r. ⌜ Lays (synthesized n (now (given .entry))) r (length (now (words .entry))) (now (words .entry)) (now (words .exit)) ⌝ }
 {
-    prepare(n, given, table, inverse);
+    copy(given, table);
     crate::spreading::spread_all(n, spread);
     let none = crate::spreading::none_from(n);
     write_rows(n, none, spread, table, inverse, words)
 }
 
-// The cascade of a permutation, written to the start of the room by way of a lent array of words. Says how many gates it has.
-fn write_by(n: usize, given: &[u16], words: &mut [u64], room: &mut [u8]) -> usize
-    requires { ⌜ n ≤ 6 ⌝ }
-    requires { ⌜ Permutation 3 n (now given) ⌝ }
+// The cascade of a permutation that comes with its inverse, written to the start of the room by way of lent arrays. Says how many gates it has.
+fn write_by(
+    n: usize,
+    given: &[u16],
+    inverse: &mut [u16],
+    table: &mut [u16],
+    spread: &mut [u64],
+    words: &mut [u64],
+    room: &mut [u8],
+) -> usize
+    requires { ⌜ 1 ≤ n ⌝ }
+    requires { ⌜ Paired n (now given) (now inverse) ⌝ }
+    requires { ⌜ length (now table) ≡ 3 ^ n ⌝ }
+    requires { ⌜ length (now spread) ≡ 3 ^ n ⌝ }
     requires { ⌜ length (synthesized n (now given)) ≤ length (now words) ⌝ }
     requires { ⌜ 8 * length (synthesized n (now given)) ≤ length (now room) ⌝ }
     ensures { λ r. ⌜ (r ≡ length (synthesized n (now (given .entry)))) × (now (room .exit) ≡ laid (bytesOf (synthesized n (now (given .entry)))) (now (room .entry))) ⌝ }
 {
-    let size = given.len();
-    let mut spread = [0u64; 729];
-    let mut table = [0u16; 729];
-    let mut inverse = [0u16; 729];
-    let start = find_in(
-        n,
-        given,
-        &mut spread[..size],
-        &mut table[..size],
-        &mut inverse[..size],
-        words,
-    );
+    let start = find_in(n, given, inverse, table, spread, words);
     put_words(&words[start..], room);
     words.len() - start
 }
 
-// The same, with an array that is large enough. Few lines get a small one: to clear the large one would take longer than their work.
-pub fn write_gates(n: usize, given: &[u16], room: &mut [u8]) -> usize
-    requires { ⌜ n ≤ 6 ⌝ }
-    requires { ⌜ Permutation 3 n (now given) ⌝ }
+// Whether every entry stands right already.
+fn is_identity(table: &[u16]) -> bool
+    requires { ⌜ length (now table) ≤ 729 ⌝ }
+    ensures { λ r. ⌜ (r ≡ true → (p : ℕ) → p < length (now (table .entry)) → getD (now (table .entry)) p 0 ≡ p) ⌝ }
+{
+    let mut i: usize = 0;
+    while i < table.len() {
+        if table[i] != i as u16 {
+            return false;
+        }
+        i += 1;
+    }
+    true
+}
+
+// The same, with arrays of the size that the lines need: to clear larger ones would take longer than the work. The identity needs none.
+pub fn write_gates(n: usize, given: &[u16], inverse: &mut [u16], room: &mut [u8]) -> usize
+    requires { ⌜ 1 ≤ n ⌝ }
+    requires { ⌜ Paired n (now given) (now inverse) ⌝ }
     requires { ⌜ 8 * length (synthesized n (now given)) ≤ length (now room) ⌝ }
     ensures { λ r. ⌜ (r ≡ length (synthesized n (now (given .entry)))) × (now (room .exit) ≡ laid (bytesOf (synthesized n (now (given .entry)))) (now (room .entry))) ⌝ }
 {
-    if n <= 4 {
-        let mut few = [0u64; 284];
-        return write_by(n, given, &mut few, room);
+    if is_identity(given) {
+        return 0;
     }
-    let mut words = [0u64; 4010];
-    write_by(n, given, &mut words, room)
+    match n {
+        1 => {
+            let mut table = [0u16; 3];
+            let mut spread = [0u64; 3];
+            let mut words = [0u64; 2];
+            write_by(n, given, inverse, &mut table, &mut spread, &mut words, room)
+        }
+        2 => {
+            let mut table = [0u16; 9];
+            let mut spread = [0u64; 9];
+            let mut words = [0u64; 14];
+            write_by(n, given, inverse, &mut table, &mut spread, &mut words, room)
+        }
+        3 => {
+            let mut table = [0u16; 27];
+            let mut spread = [0u64; 27];
+            let mut words = [0u64; 68];
+            write_by(n, given, inverse, &mut table, &mut spread, &mut words, room)
+        }
+        4 => {
+            let mut table = [0u16; 81];
+            let mut spread = [0u64; 81];
+            let mut words = [0u64; 284];
+            write_by(n, given, inverse, &mut table, &mut spread, &mut words, room)
+        }
+        5 => {
+            let mut table = [0u16; 243];
+            let mut spread = [0u64; 243];
+            let mut words = [0u64; 1094];
+            write_by(n, given, inverse, &mut table, &mut spread, &mut words, room)
+        }
+        _ => {
+            let mut table = [0u16; 729];
+            let mut spread = [0u64; 729];
+            let mut words = [0u64; 4010];
+            write_by(n, given, inverse, &mut table, &mut spread, &mut words, room)
+        }
+    }
 }

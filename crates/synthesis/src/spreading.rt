@@ -5,16 +5,19 @@ ghost use Prim.Native.Nat.{_^_, _≤_};
 ghost use lib.ListN.{length};
 ghost use Rattle.synthesis.specs.Steps.{noneFrom, Spreads};
 
-// The patterns of n lines: each has one digit more than an earlier one.
+// The patterns of n lines: each is the start of three with one digit more.
 pub fn spread_all(n: usize, spread: &mut [u64])
-    requires { ⌜ n ≤ 6 ⌝ }
+    requires { ⌜ (1 ≤ n) × (n ≤ 6) ⌝ }
     requires { ⌜ length (now spread) ≡ 3 ^ n ⌝ }
     ensures { λ _. ⌜ Spreads n (now (spread .exit)) ⌝ }
 {
     spread[0] = 0;
-    let mut p: usize = 1;
-    while p < spread.len() {
-        spread[p] = 256 * spread[p / 3] + (p % 3) as u64;
+    let mut p: usize = 0;
+    while 3 * p < spread.len() {
+        let s = 256 * spread[p];
+        spread[3 * p] = s;
+        spread[3 * p + 1] = s + 1;
+        spread[3 * p + 2] = s + 2;
         p += 1;
     }
 }

@@ -1,19 +1,16 @@
 -- A pass over a table that marks each value as it stands finds the first entry that equals an earlier one: before entry i a value is marked exactly if it
 -- stands before i. Assumes nothing.
 use mathlib.Core.Path.{_≡_, refl, sym, _∙_}
-use mathlib.Core.Bool.{Bool, true, false, _||_, or-true, or-false}
+use mathlib.Core.Bool.{Bool, true, false, or-true, or-false}
 use mathlib.Core.List.{List}
 use Prim.Native.Nat.{ℕ, _+_, _-_, _≤_, _<_}
-use native.Mathlib.Nat.{sub-zero, zero-add}
-use native.Mathlib.Numerals.{add-one}
+use native.Mathlib.Nat.{sub-zero}
 use native.Mathlib.Decide.{ℕ-discrete}
 use native.Mathlib.Omega.{arith}
-use lib.Dec.{eqb}
 use lib.ListN.{length, getD, set, replicate, length-set, length-replicate, getD-replicate}
 use lib.Seq.{getD-set-same, getD-set-other}
 use borrow.Author.Tests.{eq-eqb, ne-eqb}
 use Rattle.ranges.specs.Ranges.{some, first}
-use Rattle.ranges.proofs.Tests.{some-snoc}
 use Rattle.ranges.proofs.Searches.{first-more, first-hit, first-ends}
 use Rattle.tables.specs.Tables.{repeated, firstRepeated}
 use Rattle.tables.specs.Reached.{stands}

@@ -1,76 +1,119 @@
--- `synthesis::synthesize` meets its contract: each return is a case of the answer, by the check and the test of the room. Assumes nothing.
-use denote.Ref.{now}
-use mathlib.Core.Path.{_≡_, sym, ap, _∙_}
-use mathlib.Core.List.{[]}
-use Prim.Native.Nat.{_≤_}
+-- `synthesis::synthesize` meets its contract: each number of lines has its own array. Assumes nothing.
+use mathlib.Core.Path.{refl}
 use native.Mathlib.Omega.{arith}
-use Rattle.card.specs.Card.{Answer.accepted}
-use Rattle.card.proofs.Cards.{lines-are}
-use Rattle.tables.specs.Tables.{checkTableAnswer}
-use Rattle.tables.specs.Permutations.{Permutation}
-use Rattle.tables.specs.Answers.{checkedAs}
-use Rattle.tables.proofs.Accepts.{accepted-permutation}
-use Rattle.synthesis.proofs.Synthesis.{synthesized-bound}
-use Rattle.synthesis.proofs.Answers.{leaves-checked, leaves-small, leaves-cascade}
+use Rattle.card.specs.Card.{linesOk}
+use Rattle.synthesis.proofs.Answers.{leaves-lines}
 use borrow.Author.Needs.{needs}
 use Rattle.synthesis.proofs.synthesize.Statement.{statement}
 use Rattle.synthesis.proofs.synthesize.Tie as tie
 
--- an accepted table is a permutation on at most six lines
-module _ (c : tie.After-enum-told) where
-  abbrev start : tie.Start
-  start = c .before .before .before .before .before
+slice-aggregate-synthesize-by : tie.Need-slice-aggregate-synthesize-by
+slice-aggregate-synthesize-by c = search needs
 
-  ok : accepted [] ≡ checkTableAnswer (start .args .lines) (now (start .args .table))
-  ok = ap checkedAs (sym (c .enum-told .given .1)) ∙ c .before .before .check-table .ensures
+synthesize-by-requires : tie.Need-synthesize-by-requires
+unfolding linesOk
+synthesize-by-requires c κs = (refl, refl)
 
-  lines : start .args .lines ≤ 6
-  lines = lines-are _ (accepted-permutation _ _ (sym ok) .0) .1
+slice-aggregate-synthesize-by-2 : tie.Need-slice-aggregate-synthesize-by-2
+slice-aggregate-synthesize-by-2 c = search needs
 
-  perm : Permutation 3 (start .args .lines) (now (start .args .table))
-  perm = accepted-permutation _ _ (sym ok) .1
+synthesize-by-requires-2 : tie.Need-synthesize-by-requires-2
+unfolding linesOk
+synthesize-by-requires-2 c κs = (refl, refl)
 
-check-table-requires : tie.Need-check-table-requires
-check-table-requires c κs = search needs
+slice-aggregate-synthesize-by-3 : tie.Need-slice-aggregate-synthesize-by-3
+slice-aggregate-synthesize-by-3 c = search needs
 
-enum-known-number : tie.Need-enum-known-number
-enum-known-number c = search needs
+synthesize-by-requires-3 : tie.Need-synthesize-by-requires-3
+unfolding linesOk
+synthesize-by-requires-3 c κs = (refl, refl)
 
-returns : tie.Need-returns
-returns c = leaves-checked _ _ _ _ _ (ap checkedAs (sym (c .before .number .given .1)) ∙ c .before .before .before .check-table .ensures)
+slice-aggregate-synthesize-by-4 : tie.Need-slice-aggregate-synthesize-by-4
+slice-aggregate-synthesize-by-4 c = search needs
 
-enum-told : tie.Need-enum-told
-enum-told c = search needs
+synthesize-by-requires-4 : tie.Need-synthesize-by-requires-4
+unfolding linesOk
+synthesize-by-requires-4 c κs = (refl, refl)
 
-room-asked-requires : tie.Need-room-asked-requires
-room-asked-requires c κs = lines c
+slice-aggregate-synthesize-by-5 : tie.Need-slice-aggregate-synthesize-by-5
+slice-aggregate-synthesize-by-5 c = search needs
 
-returns-2 : tie.Need-returns-2
-returns-2 c = leaves-small _ _ _ (ok (c .before .before)) _ (c .before .room-asked .ensures) (c .if1 .taken)
+synthesize-by-requires-5 : tie.Need-synthesize-by-requires-5
+unfolding linesOk
+synthesize-by-requires-5 c κs = (refl, refl)
 
-write-gates-requires : tie.Need-write-gates-requires
-write-gates-requires c κs =
-    let d = c .before .before .before in
-    (lines d, (perm d, omega (arith, synthesized-bound _ _ (lines d) (perm d), c .before .before .room-asked .ensures, c .before .if1 .left)))
+slice-aggregate-synthesize-by-6 : tie.Need-slice-aggregate-synthesize-by-6
+slice-aggregate-synthesize-by-6 c = search needs
+
+synthesize-by-requires-6 : tie.Need-synthesize-by-requires-6
+unfolding linesOk
+synthesize-by-requires-6 c κs = (refl, refl)
 
 same-length : tie.Need-same-length
 same-length c = search needs
 
+returns : tie.Need-returns
+returns c = rw (c .before .before .before .before .before .before .match .keys1) (c .before .before .before .synthesize-by .ensures)
+
+same-length-2 : tie.Need-same-length-2
+same-length-2 c = search needs
+
+returns-2 : tie.Need-returns-2
+returns-2 c = rw (c .before .before .before .before .before .before .match .keys2) (c .before .before .before .synthesize-by2 .ensures)
+
+same-length-3 : tie.Need-same-length-3
+same-length-3 c = search needs
+
 returns-3 : tie.Need-returns-3
-returns-3 c =
-    let w = c .before .before .write-gates .ensures in
-    leaves-cascade _ _ _ (ok (c .before .before .before .before .before .before)) _ (c .before .before .before .before .before .room-asked .ensures) (c .before .before .before .before .if1 .left) _ (w .0) _ (w .1)
+returns-3 c = rw (c .before .before .before .before .before .before .match .keys3) (c .before .before .before .synthesize-by3 .ensures)
+
+same-length-4 : tie.Need-same-length-4
+same-length-4 c = search needs
+
+returns-4 : tie.Need-returns-4
+returns-4 c = rw (c .before .before .before .before .before .before .match .keys4) (c .before .before .before .synthesize-by4 .ensures)
+
+same-length-5 : tie.Need-same-length-5
+same-length-5 c = search needs
+
+returns-5 : tie.Need-returns-5
+returns-5 c = rw (c .before .before .before .before .before .before .match .keys5) (c .before .before .before .synthesize-by5 .ensures)
+
+same-length-6 : tie.Need-same-length-6
+same-length-6 c = search needs
+
+returns-6 : tie.Need-returns-6
+returns-6 c = rw (c .before .before .before .before .before .before .match .keys6) (c .before .before .before .synthesize-by6 .ensures)
+
+returns-7 : tie.Need-returns-7
+returns-7 c = leaves-lines _ _ _ (λ low high. omega (arith, c .match .rest))
 
 pub synthesize-spec : {M : Type 1} → statement M
 synthesize-spec =
     tie.close
     (tie.spec
-    check-table-requires
-    enum-known-number
-    returns
-    enum-told
-    room-asked-requires
-    returns-2
-    write-gates-requires
+    slice-aggregate-synthesize-by
+    synthesize-by-requires
+    slice-aggregate-synthesize-by-2
+    synthesize-by-requires-2
+    slice-aggregate-synthesize-by-3
+    synthesize-by-requires-3
+    slice-aggregate-synthesize-by-4
+    synthesize-by-requires-4
+    slice-aggregate-synthesize-by-5
+    synthesize-by-requires-5
+    slice-aggregate-synthesize-by-6
+    synthesize-by-requires-6
     same-length
-    returns-3)
+    returns
+    same-length-2
+    returns-2
+    same-length-3
+    returns-3
+    same-length-4
+    returns-4
+    same-length-5
+    returns-5
+    same-length-6
+    returns-6
+    returns-7)

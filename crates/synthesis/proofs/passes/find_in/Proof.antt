@@ -3,19 +3,20 @@ use borrow.Author.Needs.{needs}
 use Rattle.synthesis.proofs.passes.find_in.Statement.{statement}
 use Rattle.synthesis.proofs.passes.find_in.Tie as tie
 
-prepare-requires : tie.Need-prepare-requires
-prepare-requires c κs = search needs
+copy-requires : tie.Need-copy-requires
+copy-requires c κs = search needs
 
 spread-all-requires : tie.Need-spread-all-requires
 spread-all-requires c κs = search needs
 
 none-from-requires : tie.Need-none-from-requires
-none-from-requires c κs = c .before .before .before .before .before .before .before .before .before .before .before .before .before .before .before .before .pre .0
+none-from-requires c κs = search needs
 
 write-rows-requires : tie.Need-write-rows-requires
 write-rows-requires c κs =
-    let p = c .before .before .before .before .before .before .before .before .before .before .before .before .before .prepare .ensures in
-    (c .before .before .before .before .none-from .ensures, (c .before .before .before .before .before .before .before .spread-all .ensures, (p .1, rw (p .0) (c .before .before .before .before .before .before .before .before .before .before .before .before .before .before .before .before .before .before .before .before .before .pre .1 .1 .1 .1 .1))))
+    let s = c .before .before .before .before .before .before .before .before .before .before .before .before .before .before .before .before .before .before in
+    let p = c .before .before .before .before .before .before .before .before .before .before .before .copy .ensures in
+    (c .before .before .before .before .none-from .ensures, (c .before .before .before .before .before .before .before .spread-all .ensures, (rw p (s .pre .1 .0), rw p (s .pre .1 .1 .1 .1))))
 
 same-length : tie.Need-same-length
 same-length c = search needs
@@ -30,13 +31,13 @@ same-length-4 : tie.Need-same-length-4
 same-length-4 c = search needs
 
 returns : tie.Need-returns
-returns c = rw (c .before .before .before .before .before .before .before .before .before .before .before .before .before .before .before .before .before .before .before .before .prepare .ensures .0) at (c .before .before .before .before .before .before .write-rows .ensures)
+returns c = rw (c .before .before .before .before .before .before .before .before .before .before .before .before .before .before .before .before .before .before .copy .ensures) at (c .before .before .before .before .before .before .write-rows .ensures)
 
 pub find-in-spec : {M : Type 1} → statement M
 find-in-spec =
     tie.close
     (tie.spec
-    prepare-requires
+    copy-requires
     spread-all-requires
     none-from-requires
     write-rows-requires
