@@ -48,7 +48,11 @@ file-is f = go (decide (linesOk (linesOf f))) (decide (eqb (length f) (1 + 2 * 3
     go (_⊎_.inl ok) (_⊎_.inl e) (_⊎_.inl perm) =
         _⊎_.inr (record { lines = ok; permutation = perm; is = file-whole f ok (eqb-true (length f) (1 + 2 * 3 ^ linesOf f) e) ∙ tabled-permutation (linesOf f) (entriesOf f) perm (accepted []) })
 
--- the cascade of a table on five lines or fewer has at most 1,094
+-- the cascade of a table on four lines or fewer has at most 284 gates, on five 1,094
+pub bound-four : (n : ℕ) → n < 5 → bound n ≤ 284
+unfolding every bound
+bound-four n lt = leb-true _ _ (every-below (λ n. leb (bound n) 284) 5 refl n lt)
+
 pub bound-five : (n : ℕ) → n < 6 → bound n ≤ 1094
 unfolding every bound
 bound-five n lt = leb-true _ _ (every-below (λ n. leb (bound n) 1094) 6 refl n lt)

@@ -1,16 +1,13 @@
 -- `sheets::with_cascade` meets its contract: each room has place for the cascades of the lines that come to it. Assumes nothing.
-use native.Mathlib.Omega.{arith}
 use Rattle.card.proofs.Cards.{lines-are}
-use Rattle.synthesis.proofs.Synthesis.{bound-few, bound-most}
-use Rattle.sheets.proofs.Bounds.{bound-five}
+use Rattle.synthesis.proofs.Synthesis.{bound-most}
+use Rattle.sheets.proofs.Bounds.{bound-four, bound-five}
 use borrow.Author.Needs.{needs}
 use Rattle.sheets.proofs.with_cascade.Statement.{statement}
 use Rattle.sheets.proofs.with_cascade.Tie as tie
 
 with-few-requires : tie.Need-with-few-requires
-with-few-requires c κs =
-    let lt = c .before .if1 .taken in
-    (c .before .before .before .before .before .pre, bound-few _ (omega arith))
+with-few-requires c κs = (c .before .before .before .before .before .pre, bound-four _ (c .before .if1 .taken))
 
 same-length : tie.Need-same-length
 same-length c = search needs
