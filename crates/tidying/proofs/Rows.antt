@@ -181,6 +181,18 @@ again-none gs p g s x e lp small near rows =
       behind = λ r l. refl;
     }
 
+-- no row from x to e ends at gate p, and all are quiet with the new one
+pub again-stay : (gs : List Gate) (p : ℕ) (g : Gate) (s : List ℕ) (x e : ℕ) → p < length gs → ((r : ℕ) → x ≤ r → r < e → getD s r 0 % 16384 ≡ p → ⊥)
+    → ((r : ℕ) → x ≤ r → r < e → r < p → isGap (gate gs r) ≡ false → Quiet (gate gs r) g) → ((r : ℕ) → x ≤ r → r < p → Row gs r (getD s r 0)) → Again gs p g s s x e
+again-stay gs p g s x e lp off quiet rows =
+    record {
+      len = refl;
+      inside = λ r a b l. row-stays gs p g r (getD s r 0) lp (λ q. omega arith) (rows r a l) (λ real. off r a b) (λ real c d. quiet r a b l real);
+      below = λ r l. refl;
+      above = λ r l. refl;
+      behind = λ r l. refl;
+    }
+
 pub again-end : (gs : List Gate) (p : ℕ) (g : Gate) (s t : List ℕ) (x n : ℕ) → Known gs s → p < length gs → p < 8000 → p ≤ x → Again gs p g s t 0 x
     → n ≡ cond (isGap g) 16384 (p + 1) → Known (set gs p g) (set t p n)
 again-end gs p g s t x n k lp small le w own =

@@ -1,4 +1,4 @@
--- Views: a gate that meets nothing of the views and the kinds of many gates is quiet with each of them (`quiet-seen`), and what is known of stretches stays true
+-- Views: a gate that meets nothing of the views and the kinds of many gates is quiet with each of them (`passed-next`), and what is known of stretches stays true
 -- where a gate is replaced. What is finite is computed. Assumes nothing.
 use mathlib.Core.Path.{_≡_, refl, sym, ap, ap₂, _∙_, subst}
 use mathlib.Core.Logic.{⊎-elim}
@@ -36,7 +36,7 @@ use Rattle.tidying.specs.Rules.{sameLines, differences, cancels, merges,
 use Rattle.tidying.specs.Tidying.{gate}
 use Rattle.tidying.specs.Buffers.{isGap, Stands}
 use Rattle.tidying.specs.Rows.{Quiet, Clear}
-use Rattle.tidying.specs.Views.{upsetters, shunned, ownPart, viewOf, otherPart, againstOf, folded, kindOf, Passed, Marked}
+use Rattle.tidying.specs.Views.{upsetters, shunned, ownPart, viewOf, otherPart, againstOf, folded, kindOf, Seen, Passed, Marked}
 use Rattle.tidying.proofs.Rules.{same-target, both-or-none}
 use Rattle.tidying.proofs.Words.{operator-word, target-word}
 use Rattle.tidying.proofs.Gaps.{by-place, gate-real}
@@ -206,6 +206,13 @@ equal-type : (a b : ℕ) → eqb a b ≡ true → sameType a b ≡ true
 unfolding sameType
 equal-type a b e = rw e refl
 
+swap-test : ℕ → ℕ → Bool
+swap-test a b = cond (sameType a b) (sameType b a) true
+
+type-swap : (a b : ℕ) → a < 6 → b < 6 → sameType a b ≡ true → sameType b a ≡ true
+unfolding swap-test every sameType isC
+type-swap a b la lb e = if-so (sameType a b) (sameType b a) (every-below (swap-test a) 6 (every-below (λ a. every (swap-test a) 0 6) 6 refl a la) b lb) e
+
 module _ (g h : Gate) (okg : IsGate 6 g) (okh : IsGate 6 h) where
   one-passes : g .target ≡ h .target → sameType (g .operator) (h .operator) ≡ true → mayChange g h ≡ true
   unfolding mayChange clashes
@@ -282,12 +289,19 @@ module _ (g h : Gate) (okg : IsGate 6 g) (okh : IsGate 6 h) where
     unfolding mayChange clashes
     two-pass ne = rw (ne-eqb (g .target) (h .target) ne, free-first ne, free-second ne) refl
 
-    seen-passes : mayChange g h ≡ true
+    two-back : (g .target ≡ h .target → ⊥) → mayChange h g ≡ true
+    unfolding mayChange clashes
+    two-back ne = rw (ne-eqb (h .target) (g .target) (λ e. ne (sym e)), free-first ne, free-second ne) refl
+
+    seen-passes : (mayChange g h ≡ true) × (mayChange h g ≡ true)
     seen-passes = go (ℕ-discrete (g .target) (h .target))
       where
-        go : Dec (g .target ≡ h .target) → mayChange g h ≡ true
-        go (yes e) = one-passes g h okg okh e (one-type e)
-        go (no ne) = two-pass ne
+        back : sameType (g .operator) (h .operator) ≡ true → sameType (h .operator) (g .operator) ≡ true
+        back = type-swap (g .operator) (h .operator) (omega (arith, okg .op-high)) (omega (arith, okh .op-high))
+
+        go : Dec (g .target ≡ h .target) → (mayChange g h ≡ true) × (mayChange h g ≡ true)
+        go (yes e) = (one-passes g h okg okh e (one-type e), one-passes h g okh okg (sym e) (back (one-type e)))
+        go (no ne) = (two-pass ne, two-back ne)
 
   -- a fitting pair is of one kind
   one-kind : fits g h ≡ true → kindOf h ≡ kindOf g
@@ -314,34 +328,68 @@ kind-some : (g : Gate) → IsGate 6 g → (0 < kindOf g) × (kindOf g < 18446744
 unfolding kindOf
 kind-some g ok = rw (gate-real g ok) (kind-bit _ (folded-lt _))
 
-pub quiet-seen : (g h : Gate) → IsGate 6 g → Stands h → bitAnd (viewOf h) (againstOf g) ≡ 0 → bitAnd (kindOf h) (kindOf g) ≡ 0 → Quiet g h
-quiet-seen g h okg stands apart other =
-    ⊎-elim (λ (e : isGap h ≡ true). rw (stands .blank e) (record { unfit = gap-unfit g okg; pass = gap-passed g okg }))
-    (λ (e : isGap h ≡ false).
-    record {
-      unfit = ⊎-elim (λ (q : fits g h ≡ true). absurd (omega (arith, kind-some g okg .0, none (stands .real e) q))) (λ (q : fits g h ≡ false). q) (decide (fits g h));
-      pass = seen-passes g h okg (stands .real e) apart;
-    })
-    (decide (isGap h))
+-- gates of one kind meet
+kinds-meet : (g h : Gate) → IsGate 6 g → kindOf h ≡ kindOf g → bitAnd (kindOf h) (kindOf g) ≡ 0 → ⊥
+kinds-meet g h okg same other = none (kind-some g okg .0) (sym (and-self (kindOf g)) ∙ ap (λ (x : ℕ). bitAnd x (kindOf g)) (sym same) ∙ other)
   where
-    none : IsGate 6 h → fits g h ≡ true → kindOf g ≡ 0
-    none okh q = sym (and-self (kindOf g)) ∙ ap (λ (x : ℕ). bitAnd x (kindOf g)) (sym (one-kind g h okg okh q)) ∙ other
+    none : 0 < kindOf g → kindOf g ≡ 0 → ⊥
+    none pos e = omega arith
+
+module _ (g h : Gate) (okg : IsGate 6 g) (apart : bitAnd (viewOf h) (againstOf g) ≡ 0) (other : bitAnd (kindOf h) (kindOf g) ≡ 0) where
+  quiet-there : IsGate 6 h → Quiet g h
+  quiet-there okh =
+      record {
+        unfit = ⊎-elim (λ (q : fits g h ≡ true). absurd (kinds-meet g h okg (one-kind g h okg okh q) other)) (λ (q : fits g h ≡ false). q) (decide (fits g h));
+        pass = seen-passes g h okg okh apart .0;
+      }
+
+  quiet-back : IsGate 6 h → Quiet h g
+  quiet-back okh =
+      record {
+        unfit = ⊎-elim (λ (q : fits h g ≡ true). absurd (kinds-meet g h okg (sym (one-kind h g okh okg q)) other)) (λ (q : fits h g ≡ false). q) (decide (fits h g));
+        pass = seen-passes g h okg okh apart .1;
+      }
+
+  quiet-seen : Stands h → Quiet g h
+  quiet-seen stands =
+      ⊎-elim (λ (e : isGap h ≡ true). rw (stands .blank e) (record { unfit = gap-unfit g okg; pass = gap-passed g okg })) (λ (e : isGap h ≡ false). quiet-there (stands .real e))
+      (decide (isGap h))
 
 -- ---- stretches
 
 pub passed-start : (gs : List Gate) (x : ℕ) → Passed gs x x 0 0
-passed-start gs x = record { quiet = λ g ok a b l c d. absurd (omega arith) }
+passed-start gs x = record { quiet = λ g ok a b l c d. absurd (omega arith); back = λ g ok a b l c d. absurd (omega arith) }
 
 pub passed-next : (gs : List Gate) (x e u v : ℕ) → Each Stands gs → e < length gs → Passed gs x e u v → Passed gs x (e + 1) (bitOr u (viewOf (gate gs e))) (bitOr v (kindOf (gate gs e)))
-passed-next gs x e u v ok lt w = record { quiet = λ g okg a b l c d. go g okg (parts (againstOf g) u (viewOf (gate gs e)) a) (parts (kindOf g) v (kindOf (gate gs e)) b) l c d (ℕ-discrete l e) }
+passed-next gs x e u v ok lt w =
+    record {
+      quiet = λ g okg a b l c d. go g okg (parts (againstOf g) u (viewOf (gate gs e)) a) (parts (kindOf g) v (kindOf (gate gs e)) b) l c d (ℕ-discrete l e);
+      back = λ g okg a b l c d. turn g okg (parts (againstOf g) u (viewOf (gate gs e)) a) (parts (kindOf g) v (kindOf (gate gs e)) b) l c d (ℕ-discrete l e);
+    }
   where
     parts : (x u w : ℕ) → bitAnd x (bitOr u w) ≡ 0 → (bitAnd x u ≡ 0) × (bitAnd w x ≡ 0)
     parts x u w q = let both = or-meets u w x (and-comm (bitOr u w) x ∙ q) in (and-comm x u ∙ both .0, both .1)
 
+    stands : Stands (gate gs e)
+    stands = each-at Stands gs _ ok e lt
+
     go : (g : Gate) → IsGate 6 g → (bitAnd (againstOf g) u ≡ 0) × (bitAnd (viewOf (gate gs e)) (againstOf g) ≡ 0) → (bitAnd (kindOf g) v ≡ 0) × (bitAnd (kindOf (gate gs e)) (kindOf g) ≡ 0)
         → (l : ℕ) → x ≤ l → l < e + 1 → Dec (l ≡ e) → Quiet g (gate gs l)
-    go g okg a b l c d (yes q) = rw q (quiet-seen g (gate gs e) okg (each-at Stands gs _ ok e lt) (a .1) (b .1))
+    go g okg a b l c d (yes q) = rw q (quiet-seen g (gate gs e) okg (a .1) (b .1) stands)
     go g okg a b l c d (no ne) = w .quiet g okg (a .0) (b .0) l c (omega arith)
+
+    turn : (g : Gate) → IsGate 6 g → (bitAnd (againstOf g) u ≡ 0) × (bitAnd (viewOf (gate gs e)) (againstOf g) ≡ 0) → (bitAnd (kindOf g) v ≡ 0) × (bitAnd (kindOf (gate gs e)) (kindOf g) ≡ 0)
+        → (l : ℕ) → x ≤ l → l < e + 1 → Dec (l ≡ e) → isGap (gate gs l) ≡ false → Quiet (gate gs l) g
+    turn g okg a b l c d (yes q) real = rw q (quiet-back g (gate gs e) okg (a .1) (b .1) (stands .real (rw q at real)))
+    turn g okg a b l c d (no ne) real = w .back g okg (a .0) (b .0) l c (omega arith) real
+
+-- the gates of a stretch are quiet with what meets nothing of it, and with a gap
+pub quiet-rows : (gs : List Gate) (x e u v : ℕ) (g : Gate) (sets kind : ℕ) → Passed gs x e u v → Each Stands gs → Stands g → Seen g sets kind → bitAnd sets u ≡ 0 → bitAnd kind v ≡ 0
+    → (l : ℕ) → x ≤ l → l < e → l < length gs → isGap (gate gs l) ≡ false → Quiet (gate gs l) g
+quiet-rows gs x e u v g sets kind w ok stands seen a b l c d inside real =
+    let okl : IsGate 6 (gate gs l) = each-at Stands gs _ ok l inside .real real in
+    ⊎-elim (λ (q : isGap g ≡ true). rw (stands .blank q) (record { unfit = gap-unfit (gate gs l) okl; pass = gap-passed (gate gs l) okl }))
+    (λ (q : isGap g ≡ false). w .back g (stands .real q) (rw (← seen q .0) a) (rw (← seen q .1) b) l c d real) (decide (isGap g))
 
 -- every gate is of a kind, so that nothing is said where all kinds are there
 some-rest : (n : ℕ) → 0 < n → n < 18446744073709551616 → n % 18446744073709551616 ≡ 0 → ⊥
@@ -351,6 +399,7 @@ pub passed-all : (gs : List Gate) (x e u : ℕ) → Passed gs x e u 184467440737
 passed-all gs x e u =
     record {
       quiet = λ g ok a b l c d. absurd (some-rest (kindOf g) (kind-some g ok .0) (kind-some g ok .1) (sym (and-mask (kindOf g) 64) ∙ b));
+      back = λ g ok a b l c d. absurd (some-rest (kindOf g) (kind-some g ok .0) (kind-some g ok .1) (sym (and-mask (kindOf g) 64) ∙ b));
     }
 
 pub marked-start : (gs : List Gate) (marks : List ℕ) (n : ℕ) → length gs ≤ 8 * n → length gs + 16 ≤ 8 * length marks
@@ -375,7 +424,10 @@ marked-set gs marks p g lt w =
         rw (e, getD-set-same marks (2 * (p / 16) + 1) 18446744073709551615 0 (omega (arith, w .room))) (passed-all (set gs p g) (16 * (p / 16)) (16 * (p / 16) + 16) _)
     go s l (no ne) =
         rw (getD-set-other marks (2 * (p / 16) + 1) (2 * s) 18446744073709551615 0 (λ e. omega arith), getD-set-other marks (2 * (p / 16) + 1) (2 * s + 1) 18446744073709551615 0 (λ e. ne (omega arith)))
-        (record { quiet = λ h ok a b k c d. rw (getD-set-other gs p k g _ (λ e. ne (omega arith))) (w .each s l .quiet h ok a b k c d) })
+        (record {
+          quiet = λ h ok a b k c d. rw (getD-set-other gs p k g _ (λ e. ne (omega arith))) (w .each s l .quiet h ok a b k c d);
+          back = λ h ok a b k c d. rw (getD-set-other gs p k g _ (λ e. ne (omega arith))) (w .each s l .back h ok a b k c d);
+        })
 
 -- stretch s is looked at
 pub marked-look : (gs : List Gate) (marks : List ℕ) (s u v : ℕ) → 16 * s + 16 ≤ length gs → Marked gs marks → Passed gs (16 * s) (16 * s + 16) u v

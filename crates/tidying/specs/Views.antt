@@ -1,6 +1,6 @@
 -- A gate as the others see it: sets that tell of many gates at once which of them a gate passes. Cited by the contracts of inner functions alone.
 use mathlib.Core.Path.{_≡_}
-use mathlib.Core.Bool.{cond}
+use mathlib.Core.Bool.{false, cond}
 use mathlib.Core.List.{List}
 use Prim.Native.Nat.{ℕ, _+_, _*_, _/_, _%_, _^_, _<_, _≤_}
 use lib.Bits.{bitAnd, bitOr}
@@ -50,9 +50,14 @@ folded a = let two = bitOr a (a / 8388608) in bitOr (bitOr two (two / 64)) (two 
 unfoldable pub kindOf : Gate → ℕ
 kindOf g = cond (isGap g) 0 (2 ^ folded (pack 256 (λ k. cond (eqb (control g k) 3) 0 1) 6))
 
--- a gate that meets nothing of the sets u and v is quiet with the gates from x to e
+-- what a gate must not meet; of a gap nothing is said
+abbrev pub Seen : Gate → ℕ → ℕ → Type 0
+Seen g sets kind = isGap g ≡ false → (sets ≡ againstOf g) × (kind ≡ kindOf g)
+
+-- a gate that meets nothing of the sets u and v is quiet with the gates from x to e, and these with it
 pub record Passed (gs : List Gate) (x e u v : ℕ) : Type 0 where
   pub quiet : (g : Gate) → IsGate 6 g → bitAnd (againstOf g) u ≡ 0 → bitAnd (kindOf g) v ≡ 0 → (l : ℕ) → x ≤ l → l < e → Quiet g (gate gs l)
+  pub back : (g : Gate) → IsGate 6 g → bitAnd (againstOf g) u ≡ 0 → bitAnd (kindOf g) v ≡ 0 → (l : ℕ) → x ≤ l → l < e → isGap (gate gs l) ≡ false → Quiet (gate gs l) g
 
 -- two sets for each stretch of sixteen places
 pub record Marked (gs : List Gate) (marks : List ℕ) : Type 0 where

@@ -37,7 +37,7 @@ fn replace(
     ensures { λ q. ⌜ Known (set (gatesIn (now (b .entry)) m) p g) (now (far .exit)) × (q ≤ from) × Low (now (far .exit)) q ⌝ }
     ensures { λ _. ⌜ Reached (now (far .exit)) (now (reach .exit)) m × Marked (set (gatesIn (now (b .entry)) m) p g) (now (marks .exit)) ⌝ }
 {
-    let low = super::memory::settle_rows(b, far, reach, m, p, g, from);
+    let low = super::memory::settle_rows(b, far, reach, marks, m, p, g, from);
     gates::encode(g, b, 8 * p);
     super::views::forget_stretch(marks, p / 16);
     low

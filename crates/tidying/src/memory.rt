@@ -1,13 +1,14 @@
 // What the search remembers: far[r] says how far row r is known to be clear, with 16384 added where it is known to have no pair; that alone stands
 // where a gate has gone. reach[s] bounds this for the sixteen rows of stretch s, so that the rows that reach a changed gate are found 256 at a time.
 ghost use mathlib.Core.Path.{_≡_};
-ghost use mathlib.Core.Bool.{cond};
+ghost use mathlib.Core.Bool.{true, cond};
 ghost use mathlib.Core.List.{_++_};
 ghost use Prim.Native.Nat.{ℕ, _+_, _*_, _/_, _%_, _≤_, _<_};
 ghost use lib.ListN.{length, getD, set, drop};
 ghost use Rattle.ranges.specs.Ranges.{span};
 ghost use Rattle.tidying.specs.Buffers.{gatesIn, isGap, Stands, Holds};
 ghost use Rattle.tidying.specs.Rows.{Row, Known, Low, Reached, Again};
+ghost use Rattle.tidying.specs.Views.{Seen, Marked};
 use gates::Gate;
 
 // Each of m rows is clear up to the gate behind its own.
@@ -186,24 +187,81 @@ fn stride_end(x: usize, p: usize) -> usize
     if p < x + 16 { p } else { x + 16 }
 }
 
+// 1 where row r is clear up to p, else 0.
+fn count_row(n: u16, p: usize) -> usize
+    ensures { λ r. ⌜ (r ≤ 1) × (r ≡ 0 → n % 16384 ≡ p → ⊥) ⌝ }
+{
+    if (n % 16384) as usize == p { 1 } else { 0 }
+}
+
+// How many of the sixteen rows from x on are clear up to p.
+fn count_rows(far: &[u16], x: usize, p: usize) -> usize
+    requires { ⌜ x + 16 ≤ length (now far) ⌝ }
+    ensures { λ r. ⌜ (r ≡ 0 → (k : ℕ) → k < 16 → getD (now (far .entry)) (x + k) 0 % 16384 ≡ p → ⊥) ⌝ }
+{
+    let mut count: usize = 0;
+    let mut k: usize = 0;
+    while k < 16 {
+        count = count + count_row(far[x + k], p);
+        k = k + 1;
+    }
+    count
+}
+
+// No row of stretch s is to be looked at again: none ends at gate p, and all pass what it is to become, of which sets and kind tell. What is known of a
+// stretch that may change soon is not worth the making.
+fn stretch_stays(
+    b: &[u8],
+    far: &[u16],
+    marks: &mut [u64],
+    m: usize,
+    p: usize,
+    g: Gate,
+    sets: u64,
+    kind: u64,
+    s: usize,
+    from: usize,
+) -> bool
+    requires { ⌜ Holds (now b) (gatesIn (now b) m) × Marked (gatesIn (now b) m) (now marks) ⌝ }
+    requires { ⌜ (16 * s < p) × (from ≤ p) × (p < m) × (m ≤ 8000) × (m + 16 ≤ length (now far)) × Stands g × Seen g sets kind ⌝ }
+    requires { ⌜ ((r : ℕ) → 16 * s ≤ r → r < p → Row (gatesIn (now b) m) r (getD (now far) r 0)) ⌝ }
+    ensures { λ _. ⌜ Marked (gatesIn (now (b .entry)) m) (now (marks .exit)) ⌝ }
+    ensures { λ r. ⌜ (r ≡ true → Again (gatesIn (now (b .entry)) m) p g (now (far .entry)) (now (far .entry)) (16 * s) (16 * s + 16)) ⌝ }
+{
+    if from < 16 * s + 16 {
+        return false;
+    }
+    super::views::mark_stretch(b, marks, m, s);
+    if !super::views::meets_none(marks, s, sets, kind) {
+        return false;
+    }
+    count_rows(far, 16 * s, p) == 0
+}
+
 // The same of stretch s, where one of its rows reaches gate p.
 fn look_stretch(
     b: &[u8],
     far: &mut [u16],
     reach: &mut [u16],
+    marks: &mut [u64],
     m: usize,
     p: usize,
     g: Gate,
+    sets: u64,
+    kind: u64,
     s: usize,
     from: usize,
 ) -> usize
-    requires { ⌜ Holds (now b) (gatesIn (now b) m) ⌝ }
-    requires { ⌜ (16 * s < p) × (p < m) × (m ≤ 8000) × (m + 16 ≤ length (now far)) × Stands g × Low (now far) from × Reached (now far) (now reach) m ⌝ }
+    requires { ⌜ Holds (now b) (gatesIn (now b) m) × Marked (gatesIn (now b) m) (now marks) ⌝ }
+    requires { ⌜ (16 * s < p) × (from ≤ p) × (p < m) × (m ≤ 8000) × (m + 16 ≤ length (now far)) × Stands g × Seen g sets kind × Low (now far) from × Reached (now far) (now reach) m ⌝ }
     requires { ⌜ ((r : ℕ) → 16 * s ≤ r → r < p → Row (gatesIn (now b) m) r (getD (now far) r 0)) ⌝ }
-    ensures { λ _. ⌜ Again (gatesIn (now (b .entry)) m) p g (now (far .entry)) (now (far .exit)) (16 * s) (16 * s + 16) ⌝ }
+    ensures { λ _. ⌜ Again (gatesIn (now (b .entry)) m) p g (now (far .entry)) (now (far .exit)) (16 * s) (16 * s + 16) × Marked (gatesIn (now (b .entry)) m) (now (marks .exit)) ⌝ }
     ensures { λ q. ⌜ (q ≤ from) × Low (now (far .exit)) q × Reached (now (far .exit)) (now (reach .exit)) m ⌝ }
 {
     if ((reach[s] % 16384) as usize) < p {
+        return from;
+    }
+    if stretch_stays(b, far, marks, m, p, g, sets, kind, s, from) {
         return from;
     }
     let low = look_from(b, far, m, p, g, 16 * s, stride_end(16 * s, p), from);
@@ -216,17 +274,20 @@ fn look_stretches(
     b: &[u8],
     far: &mut [u16],
     reach: &mut [u16],
+    marks: &mut [u64],
     m: usize,
     p: usize,
     g: Gate,
+    sets: u64,
+    kind: u64,
     x: usize,
     e: usize,
     from: usize,
 ) -> usize
-    requires { ⌜ Holds (now b) (gatesIn (now b) m) ⌝ }
-    requires { ⌜ (x < e) × (e ≤ x + 16) × (16 * e < p + 16) × (p < m) × (m ≤ 8000) × (m + 16 ≤ length (now far)) × Stands g × Low (now far) from × Reached (now far) (now reach) m ⌝ }
+    requires { ⌜ Holds (now b) (gatesIn (now b) m) × Marked (gatesIn (now b) m) (now marks) ⌝ }
+    requires { ⌜ (x < e) × (e ≤ x + 16) × (16 * e < p + 16) × (p < m) × (m ≤ 8000) × (m + 16 ≤ length (now far)) × Stands g × Low (now far) from × Reached (now far) (now reach) m × Seen g sets kind × (from ≤ p) ⌝ }
     requires { ⌜ ((r : ℕ) → 16 * x ≤ r → r < p → Row (gatesIn (now b) m) r (getD (now far) r 0)) ⌝ }
-    ensures { λ _. ⌜ Again (gatesIn (now (b .entry)) m) p g (now (far .entry)) (now (far .exit)) (16 * x) (16 * e) ⌝ }
+    ensures { λ _. ⌜ Again (gatesIn (now (b .entry)) m) p g (now (far .entry)) (now (far .exit)) (16 * x) (16 * e) × Marked (gatesIn (now (b .entry)) m) (now (marks .exit)) ⌝ }
     ensures { λ q. ⌜ (q ≤ from) × Low (now (far .exit)) q × Reached (now (far .exit)) (now (reach .exit)) m ⌝ }
 {
     if (furthest(reach, x) as usize) < p {
@@ -235,7 +296,7 @@ fn look_stretches(
     let mut low = from;
     let mut s = x;
     while s < e {
-        low = look_stretch(b, far, reach, m, p, g, s, low);
+        low = look_stretch(b, far, reach, marks, m, p, g, sets, kind, s, low);
         s = s + 1;
     }
     low
@@ -269,21 +330,36 @@ pub fn settle_rows(
     b: &[u8],
     far: &mut [u16],
     reach: &mut [u16],
+    marks: &mut [u64],
     m: usize,
     p: usize,
     g: Gate,
     from: usize,
 ) -> usize
-    requires { ⌜ Holds (now b) (gatesIn (now b) m) ⌝ }
+    requires { ⌜ Holds (now b) (gatesIn (now b) m) × Marked (gatesIn (now b) m) (now marks) ⌝ }
     requires { ⌜ (from ≤ p) × (p < m) × (m ≤ 8000) × Stands g × Known (gatesIn (now b) m) (now far) × Low (now far) from × Reached (now far) (now reach) m ⌝ }
     ensures { λ q. ⌜ Known (set (gatesIn (now (b .entry)) m) p g) (now (far .exit)) × (q ≤ from) × Low (now (far .exit)) q ⌝ }
-    ensures { λ _. ⌜ Reached (now (far .exit)) (now (reach .exit)) m ⌝ }
+    ensures { λ _. ⌜ Reached (now (far .exit)) (now (reach .exit)) m × Marked (gatesIn (now (b .entry)) m) (now (marks .exit)) ⌝ }
 {
+    let seen = super::views::see_gate(g);
     let mut low = from;
     let mut x: usize = 0;
     while 16 * x < p {
         let e = stretches_end(x, p);
-        low = look_stretches(b, far, reach, m, p, g, x, e, low);
+        low = look_stretches(
+            b,
+            far,
+            reach,
+            marks,
+            m,
+            p,
+            g,
+            seen.sets,
+            seen.kinds,
+            x,
+            e,
+            low,
+        );
         x = e;
     }
     far[p] = own_row(p, g);

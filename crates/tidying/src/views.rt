@@ -11,7 +11,8 @@ ghost use Rattle.gates.specs.Gates.{IsGate};
 ghost use Rattle.tidying.specs.Tidying.{gate};
 ghost use Rattle.tidying.specs.Buffers.{gatesIn, isGap, Stands, Holds};
 ghost use Rattle.tidying.specs.Rows.{Clear};
-ghost use Rattle.tidying.specs.Views.{Written, shunned, ownPart, viewOf, otherPart, againstOf, folded, kindOf, Passed, Marked};
+ghost use Rattle.tidying.specs.Views.{Written, shunned, ownPart, viewOf, otherPart, againstOf, folded, kindOf, Seen, Passed, Marked};
+use gates::Gate;
 
 // Of a stretch of which nothing is known.
 const ALL: u64 = 18446744073709551615;
@@ -110,6 +111,21 @@ pub struct Stretch {
     pub kinds: u64,
 }
 
+// What a gate must not meet of a stretch, for its gates to pass it. All pass a gap.
+pub fn see_gate(g: Gate) -> Stretch
+    requires { ⌜ Stands g ⌝ }
+    ensures { λ r. ⌜ Seen g (r .sets) (r .kinds) ⌝ }
+{
+    if g.operator == 0 {
+        return Stretch { sets: 0, kinds: 0 };
+    }
+    let w = gates::words::word_of(g);
+    Stretch {
+        sets: against(w),
+        kinds: kind(w),
+    }
+}
+
 // The sixteen places from x on.
 fn stretch_of(b: &[u8], m: usize, x: usize) -> Stretch
     requires { ⌜ Holds (now b) (gatesIn (now b) m) × (x + 16 ≤ m) ⌝ }
@@ -128,7 +144,7 @@ fn stretch_of(b: &[u8], m: usize, x: usize) -> Stretch
 }
 
 // Stretch s is known.
-fn mark_stretch(b: &[u8], marks: &mut [u64], m: usize, s: usize)
+pub fn mark_stretch(b: &[u8], marks: &mut [u64], m: usize, s: usize)
     requires { ⌜ Holds (now b) (gatesIn (now b) m) × Marked (gatesIn (now b) m) (now marks) × (16 * s + 16 ≤ m) × (m ≤ 8000) ⌝ }
     ensures { λ _. ⌜ Marked (gatesIn (now (b .entry)) m) (now (marks .exit)) ⌝ }
 {
@@ -161,7 +177,7 @@ pub fn forget_stretch(marks: &mut [u64], s: usize)
 }
 
 // A gate meets nothing of stretch s.
-fn meets_none(marks: &[u64], s: usize, sets: u64, kind: u64) -> bool
+pub fn meets_none(marks: &[u64], s: usize, sets: u64, kind: u64) -> bool
     requires { ⌜ (2 * s + 1 < length (now marks)) × (s < 8000) ⌝ }
     ensures { λ r. ⌜ (r ≡ true → (bitAnd sets (getD (now (marks .entry)) (2 * s) 0) ≡ 0) × (bitAnd kind (getD (now (marks .entry)) (2 * s + 1) 0) ≡ 0)) ⌝ }
 {

@@ -18,16 +18,16 @@ module _ (c : tie.Start) where
   fits = holds-fits _ _ (c .pre .0) _ inside
 
 settle-rows-requires : tie.Need-settle-rows-requires
-settle-rows-requires c κs = let w = c .before .before .before .before .before .before .before .pre .1 .0 in (c .before .before .before .before .before .before .before .pre .0, (w .0, w .1, w .2, w .3, w .4, w .5, c .before .before .before .before .before .before .before .pre .1 .1 .0))
+settle-rows-requires c κs = let w = c .before .before .before .before .before .before .before .before .pre .1 .0 in ((c .before .before .before .before .before .before .before .before .pre .0, c .before .before .before .before .before .before .before .before .pre .1 .1 .1), (w .0, w .1, w .2, w .3, w .4, w .5, c .before .before .before .before .before .before .before .before .pre .1 .1 .0))
 
 mul-encode : tie.Need-mul-encode
-mul-encode c = omega (arith, fits (c .before .before .before .before .before .before .before .before .before .before .before .before .before))
+mul-encode c = omega (arith, fits (c .before .before .before .before .before .before .before .before .before .before .before .before .before .before .before .before))
 
 encode-requires : tie.Need-encode-requires
-encode-requires c κs = fits (c .before .before .before .before .before .before .before .before .before .before .before .before .before)
+encode-requires c κs = fits (c .before .before .before .before .before .before .before .before .before .before .before .before .before .before .before .before)
 
 forget-stretch-requires : tie.Need-forget-stretch-requires
-forget-stretch-requires c κs = (omega (arith, inside (c .before .before .before .before .before .before .before .before .before .before .before .before .before .before .before .before .before), c .before .before .before .before .before .before .before .before .before .before .before .before .before .before .before .before .before .pre .1 .1 .1 .room), omega (arith, c .before .before .before .before .before .before .before .before .before .before .before .before .before .before .before .before .before .pre .1 .0))
+forget-stretch-requires c κs = (omega (arith, inside (c .before .before .before .before .before .before .before .before .before .before .before .before .before .before .before .before .before .before .before .before), c .before .before .before .before .before .before .before .before .before .before .before .settle-rows .ensures .1 .1 .room), omega (arith, c .before .before .before .before .before .before .before .before .before .before .before .before .before .before .before .before .before .before .before .before .pre .1 .0))
 
 same-length : tie.Need-same-length
 same-length c = search needs
@@ -43,10 +43,10 @@ same-length-4 c = search needs
 
 returns : tie.Need-returns
 returns c =
-    let d = c .before .before .before .before .before .before .before .before .before .before .before .before .settle-rows .ensures in
-    let lt = inside (c .before .before .before .before .before .before .before .before .before .before .before .before .before .before .before .before .before .before .before .before) in (
-      rw (c .before .before .before .before .before .before .encode .ensures) (holds-set _ _ _ _ (c .before .before .before .before .before .before .before .before .before .before .before .before .before .before .before .before .before .before .before .before .pre .0) lt (c .before .before .before .before .before .before .before .before .before .before .before .before .before .before .before .before .before .before .before .before .pre .1 .0 .3)),
-      (d .0, (d .1, rw (c .before .before .forget-stretch .ensures) (marked-set _ _ _ _ lt (c .before .before .before .before .before .before .before .before .before .before .before .before .before .before .before .before .before .before .before .before .pre .1 .1 .1)))),
+    let d = c .before .before .before .before .before .before .before .before .before .before .before .before .before .before .settle-rows .ensures in
+    let lt = inside (c .before .before .before .before .before .before .before .before .before .before .before .before .before .before .before .before .before .before .before .before .before .before .before) in (
+      rw (c .before .before .before .before .before .before .encode .ensures) (holds-set _ _ _ _ (c .before .before .before .before .before .before .before .before .before .before .before .before .before .before .before .before .before .before .before .before .before .before .before .pre .0) lt (c .before .before .before .before .before .before .before .before .before .before .before .before .before .before .before .before .before .before .before .before .before .before .before .pre .1 .0 .3)),
+      (d .0, (d .1 .0, rw (c .before .before .forget-stretch .ensures) (marked-set _ _ _ _ lt (d .1 .1)))),
     )
 
 pub replace-spec : {M : Type 1} → statement M
