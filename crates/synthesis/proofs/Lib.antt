@@ -8,3 +8,4 @@ pub mod Layings
 pub mod Words
 pub mod Copies
 pub mod Answers
+pub mod OneLines

@@ -1,5 +1,5 @@
 -- What the inner functions of synthesis do, in the words of the procedure.
-use Prim.Native.Nat.{ℕ, _+_, _*_, _^_, _≤_, _<_}
+use Prim.Native.Nat.{ℕ, _+_, _-_, _*_, _^_, _≤_, _<_}
 use mathlib.Core.Path.{_≡_}
 use mathlib.Core.Bool.{cond}
 use mathlib.Core.List.{List, [], _∷_, _++_, map}
@@ -23,6 +23,10 @@ rowFrom n i k t = rowSteps 3 applied gateFor n i k (record { table = t; found = 
 
 abbrev pub rowsFrom : ℕ → ℕ → List ℕ → State Gate
 rowsFrom n i t = rows 3 applied gateFor n i (record { table = t; found = [] })
+
+-- the table of one line that begins with x and y, if it is a permutation
+abbrev pub threeFrom : ℕ → ℕ → List ℕ
+threeFrom x y = x ∷ y ∷ (3 - (x + y)) ∷ []
 
 -- a permutation of the patterns of at most six lines, and its inverse beside it
 pub record Paired (n : ℕ) (t v : List ℕ) : Type 0 where

@@ -11,6 +11,7 @@ mod making;
 mod passes;
 mod settling;
 mod spreading;
+mod threes;
 
 use cascades::Counted;
 use tables::Checked;
@@ -24,9 +25,10 @@ fn room_asked(n: usize) -> usize
     n * size - (size - 1) / 2
 }
 
-// The cascade of a table, made with the help of a lent array that comes with 65,535 everywhere and takes the table's inverse.
+// The cascade of a table of two lines or more, made with the help of a lent array that comes with 65,535 everywhere and takes the table's inverse.
 fn synthesize_by(lines: u8, table: &[u16], inverse: &mut [u16], room: &mut [u8]) -> Counted
     requires { ⌜ linesOk lines ≡ true ⌝ }
+    requires { ⌜ 2 ≤ lines ⌝ }
     requires { ⌜ now inverse ≡ replicate (3 ^ lines) 65535 ⌝ }
     ensures { λ r. ⌜ countedAs r ≡ synthesizeAnswer lines (now (table .entry)) (length (now (room .entry))) ⌝ }
     ensures { λ _. ⌜ now (room .exit) ≡ synthesizeRoom lines (now (table .entry)) (now (room .entry)) ⌝ }
@@ -49,16 +51,35 @@ fn synthesize_by(lines: u8, table: &[u16], inverse: &mut [u16], room: &mut [u8])
     Counted::Gates(gates)
 }
 
+// The cascade of a table of one line. Its six tables are told apart by two entries, and need no arrays.
+fn synthesize_one_line(table: &[u16], room: &mut [u8]) -> Counted
+    ensures { λ r. ⌜ countedAs r ≡ synthesizeAnswer 1 (now (table .entry)) (length (now (room .entry))) ⌝ }
+    ensures { λ _. ⌜ now (room .exit) ≡ synthesizeRoom 1 (now (table .entry)) (now (room .entry)) ⌝ }
+{
+    if let Checked::Refused { number, place } = tables::check_table(1, table) {
+        return Counted::Refused {
+            number: number,
+            place: place,
+        };
+    }
+    if room.len() / 8 < 2 {
+        return Counted::Refused {
+            number: 5,
+            place: 2,
+        };
+    }
+    Counted::Gates(threes::write_gates(table[0], table[1], room))
+}
+
 // The cascade of a table, written to the start of the room. The answer is its number of gates, or a refusal 1 to 5.
 pub fn synthesize(lines: u8, table: &[u16], room: &mut [u8]) -> Counted
     ensures { λ r. ⌜ countedAs r ≡ synthesizeAnswer lines (now (table .entry)) (length (now (room .entry))) ⌝ }
     ensures { λ _. ⌜ now (room .exit) ≡ synthesizeRoom lines (now (table .entry)) (now (room .entry)) ⌝ }
 {
+    if lines == 1 {
+        return synthesize_one_line(table, room);
+    }
     match lines {
-        1 => {
-            let mut inverse = [65535u16; 3];
-            synthesize_by(1, table, &mut inverse, room)
-        }
         2 => {
             let mut inverse = [65535u16; 9];
             synthesize_by(2, table, &mut inverse, room)

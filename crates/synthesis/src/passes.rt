@@ -47,7 +47,7 @@ fn write_rows(
 }
 
 // The eight bytes of a word, from a place on.
-fn put_word(word: u64, room: &mut [u8], at: usize)
+pub fn put_word(word: u64, room: &mut [u8], at: usize)
     requires { ⌜ at + 8 ≤ length (now room) ⌝ }
     ensures { λ _. ⌜ now (room .exit) ≡ sets (now (room .entry)) at (bytesOfWord word) ⌝ }
 {
@@ -132,9 +132,9 @@ fn is_identity(table: &[u16]) -> bool
     true
 }
 
-// The same, with arrays of the size that the lines need: to clear larger ones would take longer than the work. The identity needs none.
+// The same for two lines or more, with arrays of the size that the lines need: to clear larger ones would take longer than the work. The identity needs none.
 pub fn write_gates(n: usize, given: &[u16], inverse: &mut [u16], room: &mut [u8]) -> usize
-    requires { ⌜ 1 ≤ n ⌝ }
+    requires { ⌜ 2 ≤ n ⌝ }
     requires { ⌜ Paired n (now given) (now inverse) ⌝ }
     requires { ⌜ 8 * length (synthesized n (now given)) ≤ length (now room) ⌝ }
     ensures { λ r. ⌜ (r ≡ length (synthesized n (now (given .entry)))) × (now (room .exit) ≡ laid (bytesOf (synthesized n (now (given .entry)))) (now (room .entry))) ⌝ }
@@ -143,12 +143,6 @@ pub fn write_gates(n: usize, given: &[u16], inverse: &mut [u16], room: &mut [u8]
         return 0;
     }
     match n {
-        1 => {
-            let mut table = [0u16; 3];
-            let mut spread = [0u64; 3];
-            let mut words = [0u64; 2];
-            write_by(n, given, inverse, &mut table, &mut spread, &mut words, room)
-        }
         2 => {
             let mut table = [0u16; 9];
             let mut spread = [0u64; 9];

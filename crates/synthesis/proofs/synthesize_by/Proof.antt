@@ -25,8 +25,8 @@ module _ (c : tie.After-enum-told) where
   ok : accepted [] ≡ checkTableAnswer (start .args .lines) (now (start .args .table))
   ok = ap checkedAs (sym (c .enum-told .given .1)) ∙ c .before .before .before .before .check-inverting .ensures .0
 
-  within : (1 ≤ start .args .lines) × (start .args .lines ≤ 6)
-  within = lines-are _ (start .pre .0)
+  most : start .args .lines ≤ 6
+  most = lines-are _ (start .pre .0) .1
 
   perm : Permutation 3 (start .args .lines) (now (start .args .table))
   perm = accepted-permutation _ _ (sym ok) .1
@@ -47,7 +47,7 @@ enum-told : tie.Need-enum-told
 enum-told c = search needs
 
 room-asked-requires : tie.Need-room-asked-requires
-room-asked-requires c κs = within c .1
+room-asked-requires c κs = most c
 
 same-length-2 : tie.Need-same-length-2
 same-length-2 c = search needs
@@ -58,7 +58,7 @@ returns-2 c = leaves-small _ _ _ (ok (c .before .before)) _ (c .before .room-ask
 write-gates-requires : tie.Need-write-gates-requires
 write-gates-requires c κs =
     let d = c .before .before .before .before in
-    (within d .0, (paired _ _ _ (within d .1) (c .before .before .before .before .before .before .before .before .check-inverting .ensures .1 (ap checkedAs (d .enum-told .given .1))), omega (arith, synthesized-bound _ _ (within d .1) (perm d), c .before .before .before .room-asked .ensures, c .before .before .if1 .left)))
+    (start d .pre .1 .0, (paired _ _ _ (most d) (c .before .before .before .before .before .before .before .before .check-inverting .ensures .1 (ap checkedAs (d .enum-told .given .1))), omega (arith, synthesized-bound _ _ (most d) (perm d), c .before .before .before .room-asked .ensures, c .before .before .if1 .left)))
 
 same-length-3 : tie.Need-same-length-3
 same-length-3 c = search needs

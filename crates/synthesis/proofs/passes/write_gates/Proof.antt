@@ -42,8 +42,8 @@ unfolding bound
 write-by-requires c κs =
     let s = c .before .before .before .before .before .before .before .before .before .before .before in
     let w = s .pre .1 .0 in
-    let e = at-lines 1 _ (c .before .before .before .before .before .match .keys1) in
-    (s .pre .0, (w, (e .0, (e .0, (omega (arith, synthesized-bound _ _ (w .lines) (w .perm), e .1), s .pre .1 .1)))))
+    let e = at-lines 2 _ (c .before .before .before .before .before .match .keys1) in
+    (omega (arith, s .pre .0), (w, (e .0, (e .0, (omega (arith, synthesized-bound _ _ (w .lines) (w .perm), e .1), s .pre .1 .1)))))
 
 slice-aggregate-write-by-4 : tie.Need-slice-aggregate-write-by-4
 slice-aggregate-write-by-4 c = search needs
@@ -59,8 +59,8 @@ unfolding bound
 write-by-requires-2 c κs =
     let s = c .before .before .before .before .before .before .before .before .before .before .before in
     let w = s .pre .1 .0 in
-    let e = at-lines 2 _ (c .before .before .before .before .before .match .keys2) in
-    (s .pre .0, (w, (e .0, (e .0, (omega (arith, synthesized-bound _ _ (w .lines) (w .perm), e .1), s .pre .1 .1)))))
+    let e = at-lines 3 _ (c .before .before .before .before .before .match .keys2) in
+    (omega (arith, s .pre .0), (w, (e .0, (e .0, (omega (arith, synthesized-bound _ _ (w .lines) (w .perm), e .1), s .pre .1 .1)))))
 
 slice-aggregate-write-by-7 : tie.Need-slice-aggregate-write-by-7
 slice-aggregate-write-by-7 c = search needs
@@ -76,8 +76,8 @@ unfolding bound
 write-by-requires-3 c κs =
     let s = c .before .before .before .before .before .before .before .before .before .before .before in
     let w = s .pre .1 .0 in
-    let e = at-lines 3 _ (c .before .before .before .before .before .match .keys3) in
-    (s .pre .0, (w, (e .0, (e .0, (omega (arith, synthesized-bound _ _ (w .lines) (w .perm), e .1), s .pre .1 .1)))))
+    let e = at-lines 4 _ (c .before .before .before .before .before .match .keys3) in
+    (omega (arith, s .pre .0), (w, (e .0, (e .0, (omega (arith, synthesized-bound _ _ (w .lines) (w .perm), e .1), s .pre .1 .1)))))
 
 slice-aggregate-write-by-10 : tie.Need-slice-aggregate-write-by-10
 slice-aggregate-write-by-10 c = search needs
@@ -93,8 +93,8 @@ unfolding bound
 write-by-requires-4 c κs =
     let s = c .before .before .before .before .before .before .before .before .before .before .before in
     let w = s .pre .1 .0 in
-    let e = at-lines 4 _ (c .before .before .before .before .before .match .keys4) in
-    (s .pre .0, (w, (e .0, (e .0, (omega (arith, synthesized-bound _ _ (w .lines) (w .perm), e .1), s .pre .1 .1)))))
+    let e = at-lines 5 _ (c .before .before .before .before .before .match .keys4) in
+    (omega (arith, s .pre .0), (w, (e .0, (e .0, (omega (arith, synthesized-bound _ _ (w .lines) (w .perm), e .1), s .pre .1 .1)))))
 
 slice-aggregate-write-by-13 : tie.Need-slice-aggregate-write-by-13
 slice-aggregate-write-by-13 c = search needs
@@ -110,25 +110,8 @@ unfolding bound
 write-by-requires-5 c κs =
     let s = c .before .before .before .before .before .before .before .before .before .before .before in
     let w = s .pre .1 .0 in
-    let e = at-lines 5 _ (c .before .before .before .before .before .match .keys5) in
-    (s .pre .0, (w, (e .0, (e .0, (omega (arith, synthesized-bound _ _ (w .lines) (w .perm), e .1), s .pre .1 .1)))))
-
-slice-aggregate-write-by-16 : tie.Need-slice-aggregate-write-by-16
-slice-aggregate-write-by-16 c = search needs
-
-slice-aggregate-write-by-17 : tie.Need-slice-aggregate-write-by-17
-slice-aggregate-write-by-17 c = search needs
-
-slice-aggregate-write-by-18 : tie.Need-slice-aggregate-write-by-18
-slice-aggregate-write-by-18 c = search needs
-
-write-by-requires-6 : tie.Need-write-by-requires-6
-unfolding bound
-write-by-requires-6 c κs =
-    let s = c .before .before .before .before .before .before .before .before .before .before .before in
-    let w = s .pre .1 .0 in
     let e = at-lines 6 (s .args .n) (omega (arith, c .before .before .before .before .before .match .rest, s .pre .0, w .lines)) in
-    (s .pre .0, (w, (e .0, (e .0, (omega (arith, synthesized-bound _ _ (w .lines) (w .perm), e .1), s .pre .1 .1)))))
+    (omega (arith, s .pre .0), (w, (e .0, (e .0, (omega (arith, synthesized-bound _ _ (w .lines) (w .perm), e .1), s .pre .1 .1)))))
 
 same-length : tie.Need-same-length
 same-length c = search needs
@@ -175,15 +158,6 @@ same-length-10 c = search needs
 returns-6 : tie.Need-returns-6
 returns-6 c = search needs
 
-same-length-11 : tie.Need-same-length-11
-same-length-11 c = search needs
-
-same-length-12 : tie.Need-same-length-12
-same-length-12 c = search needs
-
-returns-7 : tie.Need-returns-7
-returns-7 c = search needs
-
 pub write-gates-spec : {M : Type 1} → statement M
 write-gates-spec =
     tie.close
@@ -210,10 +184,6 @@ write-gates-spec =
     slice-aggregate-write-by-14
     slice-aggregate-write-by-15
     write-by-requires-5
-    slice-aggregate-write-by-16
-    slice-aggregate-write-by-17
-    slice-aggregate-write-by-18
-    write-by-requires-6
     same-length
     same-length-2
     returns-2
@@ -228,7 +198,4 @@ write-gates-spec =
     returns-5
     same-length-9
     same-length-10
-    returns-6
-    same-length-11
-    same-length-12
-    returns-7)
+    returns-6)
