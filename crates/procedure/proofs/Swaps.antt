@@ -32,7 +32,7 @@ module _ (r : ℕ) (pos : 0 < r) {G : Type 0} (apply : G → ℕ → ℕ) (make 
   patterns-differ : a ≡ b → ⊥
   patterns-differ e = ne (ap (digit r k) (e ∙ eb) ∙ digit-put-same r k a (digit r k i) (asked .value))
 
-  rows-differ : y ≡ i → ⊥
+  pub rows-differ : y ≡ i → ⊥
   rows-differ e = patterns-differ (ea ∙ ap (λ (p : ℕ). getD t p 0) (sym e) ∙ at-row)
 
   -- ---- the entries afterwards

@@ -4,10 +4,10 @@ use mathlib.Core.Path.{_≡_, refl, sym, ap, _∙_}
 use mathlib.Core.List.{List, [], _∷_, _++_, map}
 use mathlib.Core.Logic.{_⊎_, ⊎-elim}
 use Prim.Native.Nat.{ℕ, zero, suc, _+_, _^_, _≤_, _<_}
-use native.Mathlib.Decide.{ℕ-discrete}
 use native.Mathlib.Numerals.{add-one}
 use native.Mathlib.Omega.{arith}
-use lib.ListN.{length, getD, set, length-append}
+use lib.ListN.{length, getD, set, length-set, length-append}
+use lib.Seq.{getD-set-same, getD-set-other, set-getD, set-set, set-comm}
 use Rattle.ranges.proofs.Counts.{here-or-later, lt-or-le}
 use Rattle.digits.specs.Digits.{digit, put}
 use Rattle.digits.proofs.Digits.{digit-lt, digit-high, digit-put-same, put-same}
@@ -18,9 +18,9 @@ use Rattle.tables.specs.Reached.{Inverted}
 use Rattle.procedure.specs.Procedure.{State, adding, digitStep, rowSteps, rows, settled, cascadeFor}
 use Rattle.procedure.proofs.Steps.{begun, step-same, step-other, row-next, row-grows, rows-next, rows-grow}
 use Rattle.procedure.proofs.Families.{Asked}
-use Rattle.procedure.proofs.Settles.{entry-after, permutation-after}
-use Rattle.procedure.proofs.Inverses.{inverse-size, inverse-only}
-use Rattle.procedure.proofs.Swaps.{other-lt, row-lt, table-stores, inverse-stores}
+use Rattle.procedure.proofs.Settles.{permutation-after}
+use Rattle.procedure.proofs.Inverses.{inverse-size, inverse-entry, inverse-only}
+use Rattle.procedure.proofs.Swaps.{other-lt, row-lt, rows-differ, table-stores, inverse-stores}
 use Rattle.synthesis.specs.Synthesis.{gateFor, synthesized}
 use Rattle.synthesis.specs.Steps.{stepFrom, rowFrom, rowsFrom, Paired, Reached}
 use Rattle.synthesis.proofs.Ternary.{ternary}
@@ -82,11 +82,6 @@ module _ (n i k a b : ℕ) (t v : List ℕ) (w : Paired n t v) (below : i < 3 ^ 
     unfolding adding
     added = rw ea (step-other 3 applied gateFor n i k (begun t) entries-differ)
 
-    moved-entry : b ≡ getD (stepFrom n i k t .table) i 0
-    moved-entry =
-        rw added
-        (eb ∙ sym (entry-after 3 three-pos applied gateFor n (ternary n (w .lines)) k a (digit 3 k i) is-asked t (w .perm) i below ∙ rw (← ea) (ternary n (w .lines) .there k a (digit 3 k i) is-asked)))
-
     -- y is the row that holds b
     module _ (y : ℕ) (ey : y ≡ getD v b 0) where
       pub new-lt : b < 3 ^ n
@@ -94,6 +89,9 @@ module _ (n i k a b : ℕ) (t v : List ℕ) (w : Paired n t v) (below : i < 3 ^ 
 
       pub other-row : y < 3 ^ n
       other-row = row-lt 3 three-pos applied gateFor n (ternary n (w .lines)) t v (w .perm) (w .inverse) i k a b y below line ea eb ey differ
+
+      pub other-apart : y ≡ i → ⊥
+      other-apart = rows-differ 3 three-pos applied gateFor n (ternary n (w .lines)) t v (w .perm) (w .inverse) i k a b y below line ea eb ey differ
 
       pub step-gate : Reached n (stepFrom n i k t) (set (set t i b) y a) (set (set v a y) b i)
       step-gate =
@@ -109,13 +107,37 @@ module _ (n i k a b : ℕ) (t v : List ℕ) (w : Paired n t v) (below : i < 3 ^ 
                 };
           })
 
-  -- either way the entry is b now
-  pub step-entry : b ≡ getD (stepFrom n i k t .table) i 0
-  step-entry = go (ℕ-discrete a b)
-    where
-      go : Dec (a ≡ b) → b ≡ getD (stepFrom n i k t .table) i 0
-      go (yes e) = rw (step-same 3 applied gateFor n i k (begun t) (agree e)) (sym e ∙ ea)
-      go (no ne) = moved-entry ne
+-- ---- the same with the row's entry in hand: table and inverse are right once it is stored
+
+module _ (n i a : ℕ) (t v : List ℕ) (w : Paired n (set t i a) (set v a i)) where
+  pub held-sized : Sized n t v
+  held-sized =
+      let s = sized n (set t i a) (set v a i) w in
+      record { few = s .few; table = sym (length-set t i a) ∙ s .table; inverse = sym (length-set v a i) ∙ s .inverse }
+
+  pub held-at : i < 3 ^ n → a ≡ getD (set t i a) i 0
+  held-at below = sym (getD-set-same t i a 0 (omega (arith, held-sized .table)))
+
+  pub held-lt : i < 3 ^ n → a < 3 ^ n
+  held-lt below = rw (held-at below) (w .perm .within i below)
+
+module _ (n i k a b : ℕ) (t v : List ℕ) (w : Paired n (set t i a) (set v a i)) (below : i < 3 ^ n) (eb : b ≡ put 3 k a (digit 3 k i)) where
+  abbrev entry : a ≡ getD (set t i a) i 0
+  entry = held-at n i a t v w below
+
+  pub held-not : a ≡ b → Reached n (stepFrom n i k (set t i a)) (set t i b) (set v b i)
+  held-not e = rw (← e) (step-not n i k a b (set t i a) (set v a i) w below entry eb e)
+
+  module _ (ne : a ≡ b → ⊥) (y : ℕ) (ey : y ≡ getD v b 0) where
+    pub held-row : y ≡ getD (set v a i) b 0
+    held-row = ey ∙ sym (getD-set-other v a b i 0 (λ e. ne (sym e)))
+
+    pub held-gate : Reached n (stepFrom n i k (set t i a)) (set (set t y a) i b) (set (set v a y) b i)
+    held-gate =
+        let apart : i ≡ y → ⊥ = λ e. other-apart n i k a b (set t i a) (set v a i) w below entry eb ne y held-row (sym e) in
+        let same : set (set (set t i a) i b) y a ≡ set (set t y a) i b = ap (λ (l : List ℕ). set l y a) (set-set t i a b) ∙ set-comm t i y b a apart in
+        let back : set (set (set v a i) a y) b i ≡ set (set v a y) b i = ap (λ (l : List ℕ). set l b i) (set-set v a i y) in
+        rw (same, back) at (step-gate n i k a b (set t i a) (set v a i) w below entry eb ne y held-row)
 
 -- ---- a row, digit by digit
 
@@ -126,9 +148,13 @@ row-settled n i t e zero = refl
 row-settled n i t e (suc m) =
     ap (digitStep 3 applied gateFor n i m) (row-settled n i t e m) ∙ step-same 3 applied gateFor n i m (begun t) (ap (digit 3 m) e)
 
-pub row-none : (n i : ℕ) (t v : List ℕ) → Paired n t v → (rowFrom n i 0 t .found ≡ []) × Reached n (rowFrom n i 0 t) t v
+pub row-none : (n i : ℕ) (t v : List ℕ) → Paired n t v → i < 3 ^ n
+    → (rowFrom n i 0 t .found ≡ []) × Reached n (rowFrom n i 0 t) (set t i (getD t i 0)) (set v (getD t i 0) i)
 unfolding rowSteps
-row-none n i t v w = (refl, record { table = refl; pair = w })
+row-none n i t v w below =
+    let e : getD v (getD t i 0) 0 ≡ i = rw (w .inverse) (inverse-entry 3 n t three-pos (w .perm) i below) in
+    let back : set v (getD t i 0) i ≡ v = rw e at (set-getD v (getD t i 0) 0) in
+    (refl, rw (set-getD t i 0, back) (record { table = refl; pair = w }))
 
 module _ (n i k : ℕ) (t t′ v′ : List ℕ) (at : Reached n (rowFrom n i k t) t′ v′) where
   pub row-found : rowFrom n i (k + 1) t .found ≡ stepFrom n i k t′ .found ++ rowFrom n i k t .found

@@ -1,13 +1,14 @@
 // One row of the procedure, digit by digit. The inverse is kept beside the table, so that a gate exchanges two entries of each and looks at no others.
+// The row's own entry is kept in hand and stored at the row's end: until then its places in the table and in the inverse say nothing.
 // A gate's record is laid down as one number, right before the one found last, since the last gate found is the first of the cascade.
 ghost use mathlib.Core.Path.{_≡_};
 ghost use Prim.Native.Nat.{_^_, _≤_, _<_};
-ghost use lib.ListN.{length, getD};
+ghost use lib.ListN.{length, set};
 ghost use Rattle.digits.specs.Digits.{digit, put};
 ghost use Rattle.synthesis.specs.Synthesis.{gateFor};
 ghost use Rattle.synthesis.specs.Steps.{stepFrom, rowFrom, Paired, Reached, noneFrom, Spreads, wordOf, Lays};
 
-// Digit k of row i, whose entry is a: where that digit is not the one of i, a changes places with b, which differs from it in that digit alone.
+// Digit k of row i, whose entry in hand is a: where that digit is not the one of i, a changes places with b, which differs from it in that digit alone.
 // Says where the words begin now.
 fn settle(
     n: usize,
@@ -21,21 +22,19 @@ fn settle(
     words: &mut [u64],
     end: usize,
 ) -> usize
-    requires { ⌜ Paired n (now table) (now inverse) ⌝ }
-    requires { ⌜ (i < 3 ^ n) × (a ≡ getD (now table) i 0) × (b ≡ put 3 k a (digit 3 k i)) ⌝ }
+    requires { ⌜ Paired n (set (now table) i a) (set (now inverse) a i) ⌝ }
+    requires { ⌜ (i < 3 ^ n) × (b ≡ put 3 k a (digit 3 k i)) ⌝ }
     requires { ⌜ (k < n → word ≡ wordOf (gateFor n k a (digit 3 k i))) ⌝ }
-    requires { ⌜ length (stepFrom n i k (now table) .found) ≤ end ⌝ }
+    requires { ⌜ length (stepFrom n i k (set (now table) i a) .found) ≤ end ⌝ }
     requires { ⌜ end ≤ length (now words) ⌝ }
-    ensures { λ r. ⌜ Lays (stepFrom n i k (now (table .entry)) .found) r end (now (words .entry)) (now (words .exit)) × Reached n (stepFrom n i k (now (table .entry))) (now (table .exit)) (now (inverse .exit)) ⌝ }
+    ensures { λ r. ⌜ Lays (stepFrom n i k (set (now (table .entry)) i a) .found) r end (now (words .entry)) (now (words .exit)) × Reached n (stepFrom n i k (set (now (table .entry)) i a)) (set (now (table .exit)) i b) (set (now (inverse .exit)) b i) ⌝ }
 {
     if a == b {
         return end;
     }
     let y = inverse[b as usize];
-    table[i] = b;
     table[y as usize] = a;
     inverse[a as usize] = y;
-    inverse[b as usize] = i as u16;
     let next = end - 1;
     words[next] = word;
     next
@@ -85,5 +84,7 @@ pub fn write_row(
         byte = byte * 256;
         k += 1;
     }
+    table[i] = a;
+    inverse[a as usize] = i as u16;
     e
 }

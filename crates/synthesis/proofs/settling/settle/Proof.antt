@@ -1,25 +1,35 @@
--- `synthesis::settling::settle` meets its contract: the entry stands right and nothing is done, or the four stores and the word are the gate. Assumes nothing.
+-- `synthesis::settling::settle` meets its contract: the entry stands right and nothing is done, or the two stores and the word are the gate, with the entry in hand. Assumes nothing.
 use denote.Ref.{now}
 use mathlib.Core.Path.{_≡_, refl}
 use mathlib.Core.List.{List}
 use Prim.Native.Nat.{ℕ, _^_, _≤_, _<_}
-use lib.ListN.{length, getD, length-set}
+use lib.ListN.{length, getD, set}
 use native.Mathlib.Omega.{arith}
-use Rattle.synthesis.proofs.Moves.{Sized, sized, agree, old-lt, entries-differ, line, new-lt, other-row, step-not, step-gate}
+use Rattle.synthesis.proofs.Moves.{Sized, agree, old-lt, entries-differ, line, new-lt, other-row, held-sized, held-at, held-not, held-row, held-gate}
 use Rattle.synthesis.proofs.Layings.{emits-none, emits-room, emits-one}
 use borrow.Author.Needs.{needs}
 use Rattle.synthesis.proofs.settling.settle.Statement.{statement}
 use Rattle.synthesis.proofs.settling.settle.Tie as tie
 
--- what is known of the numbers where a gate is added: a is the entry, b the one that is to stand there, y the row that has it
+-- what is known of the numbers where a gate is added: a is the entry in hand, b the one that is to stand there, y the row that has it
 record Facts (n i a b y end : ℕ) (t v ws : List ℕ) : Type 0 where
   sizes : Sized n t v
-  row : i < 3 ^ n
   old : a < 3 ^ n
   new : b < 3 ^ n
   other : y < 3 ^ n
   some : 1 ≤ end
   fits : end ≤ length ws
+
+-- the entry in hand
+module _ (s : tie.Start) where
+  abbrev table : List ℕ
+  table = set (now (s .args .table)) (s .args .i) (s .args .a)
+
+  abbrev inverse : List ℕ
+  inverse = set (now (s .args .inverse)) (s .args .a) (s .args .i)
+
+  entry : s .args .a ≡ getD table (s .args .i) 0
+  entry = held-at (s .args .n) (s .args .i) (s .args .a) (now (s .args .table)) (now (s .args .inverse)) (s .pre .0) (s .pre .1 .0 .0)
 
 module _ (c : tie.After-slice-known) where
   abbrev start : tie.Start
@@ -31,17 +41,20 @@ module _ (c : tie.After-slice-known) where
   abbrev y : ℕ
   y = getD (now (start .args .inverse)) (start .args .b) 0
 
+  row : y ≡ getD (inverse start) (start .args .b) 0
+  row = held-row _ _ _ _ _ (now (start .args .table)) (now (start .args .inverse)) (start .pre .0) (start .pre .1 .0 .0) (start .pre .1 .0 .1) ne y refl
+
   facts : Facts (start .args .n) (start .args .i) (start .args .a) (start .args .b) y (start .args .end) (now (start .args .table)) (now (start .args .inverse)) (now (start .args .words))
   facts =
       let w = start .pre .0 in
       let p = start .pre .1 .0 in
+      let e = entry start in
       record {
-        sizes = sized _ _ _ w;
-        row = p .0;
-        old = old-lt _ _ _ _ _ _ _ w (p .0) (p .1) (p .2);
-        new = new-lt _ _ _ _ _ _ _ w (p .0) (p .1) (p .2) ne y refl;
-        other = other-row _ _ _ _ _ _ _ w (p .0) (p .1) (p .2) ne y refl;
-        some = emits-room _ _ _ _ (entries-differ _ _ _ _ _ _ _ w (p .0) (p .1) (p .2) ne) _ (start .pre .1 .1 .1 .0);
+        sizes = held-sized _ _ _ _ _ w;
+        old = old-lt _ _ _ _ _ _ _ w (p .0) e (p .1);
+        new = new-lt _ _ _ _ _ _ _ w (p .0) e (p .1) ne y row;
+        other = other-row _ _ _ _ _ _ _ w (p .0) e (p .1) ne y row;
+        some = emits-room _ _ _ _ (entries-differ _ _ _ _ _ _ _ w (p .0) e (p .1) ne) _ (start .pre .1 .1 .1 .0);
         fits = start .pre .1 .1 .1 .1;
       }
 
@@ -49,8 +62,8 @@ returns : tie.Need-returns
 returns c =
     let w = c .before .pre .0 in
     let p = c .before .pre .1 .0 in (
-      emits-none _ _ _ _ _ _ (agree _ _ _ _ _ _ _ w (p .0) (p .1) (p .2) (c .if1 .taken)),
-      step-not _ _ _ _ _ _ _ w (p .0) (p .1) (p .2) (c .if1 .taken),
+      emits-none _ _ _ _ _ _ (agree _ _ _ _ _ _ _ w (p .0) (entry (c .before)) (p .1) (c .if1 .taken)),
+      held-not _ _ _ _ _ (now (c .before .args .table)) (now (c .before .args .inverse)) w (p .0) (p .1) (c .if1 .taken),
     )
 
 mul-y : tie.Need-mul-y
@@ -59,35 +72,20 @@ mul-y c = search needs
 slice-read-y : tie.Need-slice-read-y
 slice-read-y c = omega (arith, facts c)
 
-mul-table : tie.Need-mul-table
-mul-table c = search needs
-
-slice-write-table : tie.Need-slice-write-table
-slice-write-table c = omega (arith, facts c)
-
 cast-table : tie.Need-cast-table
 cast-table c = omega (arith, facts c)
 
-mul-table-2 : tie.Need-mul-table-2
-mul-table-2 c = omega (arith, facts c)
+mul-table : tie.Need-mul-table
+mul-table c = omega (arith, facts c)
 
-slice-write-table-2 : tie.Need-slice-write-table-2
-slice-write-table-2 c = simp length-set (omega (arith, facts c))
+slice-write-table : tie.Need-slice-write-table
+slice-write-table c = omega (arith, facts c)
 
 mul-inverse : tie.Need-mul-inverse
 mul-inverse c = search needs
 
 slice-write-inverse : tie.Need-slice-write-inverse
 slice-write-inverse c = omega (arith, facts c)
-
-cast-inverse : tie.Need-cast-inverse
-cast-inverse c = omega (arith, facts c)
-
-mul-inverse-2 : tie.Need-mul-inverse-2
-mul-inverse-2 c = search needs
-
-slice-write-inverse-2 : tie.Need-slice-write-inverse-2
-slice-write-inverse-2 c = simp length-set (omega (arith, facts c))
 
 sub-next : tie.Need-sub-next
 sub-next c = omega (arith, facts c)
@@ -112,9 +110,9 @@ returns-2 c =
     let s = start c in
     let w = s .pre .0 in
     let p = s .pre .1 .0 in (
-      emits-one _ _ _ _ (entries-differ _ _ _ _ _ _ _ w (p .0) (p .1) (p .2) (ne c)) _ _ _ _ _ (p .1) (omega (arith, facts c))
-          (s .pre .1 .1 .0 (line _ _ _ _ _ _ _ w (p .0) (p .1) (p .2) (ne c))),
-      step-gate _ _ _ _ _ _ _ w (p .0) (p .1) (p .2) (ne c) (y c) refl,
+      emits-one _ _ _ _ (entries-differ _ _ _ _ _ _ _ w (p .0) (entry s) (p .1) (ne c)) _ _ _ _ _ (entry s) (omega (arith, facts c))
+          (s .pre .1 .1 .0 (line _ _ _ _ _ _ _ w (p .0) (entry s) (p .1) (ne c))),
+      held-gate _ _ _ _ _ (now (s .args .table)) (now (s .args .inverse)) w (p .0) (p .1) (ne c) (y c) refl,
     )
 
 pub settle-spec : {M : Type 1} → statement M
@@ -124,16 +122,11 @@ settle-spec =
     returns
     mul-y
     slice-read-y
+    cast-table
     mul-table
     slice-write-table
-    cast-table
-    mul-table-2
-    slice-write-table-2
     mul-inverse
     slice-write-inverse
-    cast-inverse
-    mul-inverse-2
-    slice-write-inverse-2
     sub-next
     mul-words
     slice-write-words

@@ -6,15 +6,15 @@ use mathlib.Core.List.{List}
 use Prim.Native.Nat.{ℕ, _+_, _-_, _*_, _/_, _%_, _^_, _≤_, _<_}
 use native.Mathlib.Nat.{pow-suc, pow-le-pow-right, le-refl}
 use native.Mathlib.Numerals.{add-one}
-use lib.ListN.{length, getD}
+use lib.ListN.{length, getD, set}
 use borrow.Author.Needs.{needs}
 use native.Mathlib.Omega.{arith}
 use Rattle.digits.specs.Digits.{digit}
 use Rattle.digits.proofs.Digits.{digit-lt, digit-put-other, shift-start, shift-digit, shift-next}
 use Rattle.digits.proofs.Sizes.{three-pos, patterns-most}
-use Rattle.synthesis.specs.Steps.{rowFrom, Reached, spreadOf, noneFrom, Spreads, Facing, Lays}
+use Rattle.synthesis.specs.Steps.{rowFrom, Paired, Reached, spreadOf, noneFrom, Spreads, Facing, Lays}
 use Rattle.synthesis.proofs.Spreads.{spread-digit, spread-small, none-small}
-use Rattle.synthesis.proofs.Moves.{Sized, sized, same-sizes, step-entry, row-settled, row-none, row-found, row-more, row-past, row-room}
+use Rattle.synthesis.proofs.Moves.{Sized, sized, same-sizes, held-sized, held-lt, row-settled, row-none, row-found, row-more, row-past, row-room}
 use Rattle.synthesis.proofs.Layings.{lays-none, lays-more, lays-length}
 use Rattle.synthesis.proofs.settling.write_row.Statement.{statement}
 use Rattle.synthesis.proofs.settling.write_row.Tie as tie
@@ -25,10 +25,9 @@ record Going (n i none : ℕ) (sp t₀ ws₀ : List ℕ) (end : ℕ) (t v ws : L
   spreads : Spreads n sp
   fits : length (rowFrom n i n t₀ .found) ≤ end
   room : end ≤ length ws₀
-  at : Reached n (rowFrom n i k t₀) t v
+  at : Reached n (rowFrom n i k t₀) (set t i a) (set v a i)
   past : n ≤ k → rowFrom n i k t₀ ≡ rowFrom n i n t₀
   laid : Lays (rowFrom n i k t₀ .found) e end ws₀ ws
-  entry : a ≡ getD t i 0
   same : (j : ℕ) → k ≤ j → digit 3 j a ≡ digit 3 j (getD t₀ i 0)
   from : x ≡ spreadOf (getD t₀ i 0) / 256 ^ k
   to : z ≡ spreadOf i / 256 ^ k
@@ -55,7 +54,7 @@ record Turn (n i none : ℕ) (sp : List ℕ) (a x z w u k : ℕ) : Type 0 where
 turning : (n i none : ℕ) (sp t₀ ws₀ : List ℕ) (end : ℕ) (t v ws : List ℕ) (a x z e w u k : ℕ) → Going n i none sp t₀ ws₀ end t v ws a x z e w u k → k < 6
     → Turn n i none sp a x z w u k
 turning n i none sp t₀ ws₀ end t v ws a x z e w u k g lt =
-    let old : a < 3 ^ n = rw (g .entry) (g .at .pair .perm .within i (g .below)) in
+    let old : a < 3 ^ n = held-lt n i a t v (g .at .pair) (g .below) in
     record {
       facing =
           record {
@@ -73,6 +72,19 @@ turning n i none sp t₀ ws₀ end t v ws a x z e w u k g lt =
       weight = rw (g .weight) (pow-le-pow-right {n = 3} (omega arith) {i = k} {j = 5} (omega arith));
       byte = rw (g .byte) (pow-le-pow-right {n = 256} (omega arith) {i = k} {j = 5} (omega arith));
     }
+
+-- what storing the entry in hand needs of its numbers
+record Held (i a : ℕ) (t v : List ℕ) : Type 0 where
+  row : i < length t
+  value : a < length v
+  few : length t ≤ 729
+  alike : length v ≡ length t
+
+holding : (n i a : ℕ) (t v : List ℕ) → Paired n (set t i a) (set v a i) → i < 3 ^ n → Held i a t v
+holding n i a t v w below =
+    let s = held-sized n i a t v w in
+    let lt = held-lt n i a t v w below in
+    record { row = omega (arith, s .table); value = omega (arith, s .inverse); few = omega (arith, s .table, s .few); alike = s .inverse ∙ sym (s .table) }
 
 module _ (c : tie.In-loop Inv-loop μ-loop) where
   abbrev start : tie.Start Inv-loop μ-loop
@@ -125,7 +137,7 @@ shared-slice-read-wanted c = let s = c .before .before .before .before .before .
 loop-holds : tie.Need-loop-holds Inv-loop μ-loop
 loop-holds c =
     let s = c .before .before .before .before .before .before .before .before in
-    let none = row-none (s .args .n) (s .args .i) (now (s .args .table)) (now (s .args .inverse)) (s .pre .1 .1 .0) in
+    let none = row-none (s .args .n) (s .args .i) (now (s .args .table)) (now (s .args .inverse)) (s .pre .1 .1 .0) (s .pre .1 .1 .1 .0) in
     record {
       below = s .pre .1 .1 .1 .0;
       bare = s .pre .0;
@@ -135,7 +147,6 @@ loop-holds c =
       at = none .1;
       past = λ le. ap (λ (m : ℕ). rowFrom (s .args .n) (s .args .i) m (now (s .args .table))) (omega arith);
       laid = rw (none .0) (lays-none _ _);
-      entry = refl;
       same = λ j le. refl;
       from = s .pre .1 .0 .each _ (old s) ∙ shift-start 256 _;
       to = s .pre .1 .0 .each _ (s .pre .1 .1 .1 .0) ∙ shift-start 256 _;
@@ -167,7 +178,7 @@ settle-requires c κs =
     let g = d .before .loop .inv in (
       g .at .pair,
       (
-        (g .below, g .entry, c .before .before .before .before .before .entry-for .ensures),
+        (g .below, c .before .before .before .before .before .entry-for .ensures),
         (
           c .before .before .before .word-for .ensures,
           (
@@ -204,13 +215,35 @@ loop-again c =
       at = row-more _ _ _ _ _ _ (g .at) _ _ (settled .1);
       past = row-past _ _ _ _ _ _ (g .at) (g .below) (g .past);
       laid = rw (row-found _ _ _ _ _ _ (g .at)) (lays-more _ _ _ _ _ _ _ _ (g .laid) (settled .0));
-      entry = step-entry _ _ _ _ _ _ _ (g .at .pair) (g .below) (g .entry) eb ∙ ap (λ (l : List ℕ). getD l (start (state c) .args .i) 0) (sym (settled .1 .table));
       same = λ j le. ap (digit 3 j) eb ∙ digit-put-other 3 j _ _ _ (digit-lt 3 _ _ three-pos) (λ e. omega arith) ∙ g .same j (omega arith);
       from = shift-next 256 _ _ _ (g .from);
       to = shift-next 256 _ _ _ (g .to);
       weight = rw (add-one, pow-suc) (ap (λ (x : ℕ). x * 3) (g .weight));
       byte = rw (add-one, pow-suc) (ap (λ (x : ℕ). x * 256) (g .byte));
     }
+
+-- after the loop: the entry in hand goes to its places
+module _ (c : tie.After-loop Inv-loop μ-loop) where
+  held : Held (c .before .before .before .before .before .before .before .before .before .before .args .i) (c .before .loop .a) (c .before .loop .table) (c .before .loop .inverse)
+  held = holding _ _ _ _ _ (c .before .loop .inv .at .pair) (c .before .loop .inv .below)
+
+mul-table : tie.Need-mul-table Inv-loop μ-loop
+mul-table c = search needs
+
+slice-write-table : tie.Need-slice-write-table Inv-loop μ-loop
+slice-write-table c = omega (arith, held c)
+
+cast-inverse : tie.Need-cast-inverse Inv-loop μ-loop
+cast-inverse c = omega (arith, held c)
+
+cast-inverse-2 : tie.Need-cast-inverse-2 Inv-loop μ-loop
+cast-inverse-2 c = omega (arith, held c)
+
+mul-inverse : tie.Need-mul-inverse Inv-loop μ-loop
+mul-inverse c = omega (arith, held c)
+
+slice-write-inverse : tie.Need-slice-write-inverse Inv-loop μ-loop
+slice-write-inverse c = omega (arith, held c)
 
 same-length : tie.Need-same-length Inv-loop μ-loop
 same-length c = same-sizes _ _ _ _ _ (c .before .before .before .before .before .before .before .before .before .before .pre .1 .1 .0) (c .before .loop .inv .at .pair) .0
@@ -255,6 +288,12 @@ write-row-spec =
     add-k
     loop-less
     loop-again
+    mul-table
+    slice-write-table
+    cast-inverse
+    cast-inverse-2
+    mul-inverse
+    slice-write-inverse
     same-length
     same-length-2
     same-length-3
