@@ -14,3 +14,4 @@ pub mod Tallies
 pub mod Faults
 pub mod Exchanges
 pub mod Gathers
+pub mod Lone

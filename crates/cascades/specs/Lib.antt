@@ -3,3 +3,4 @@ pub mod Prices
 pub mod Answers
 pub mod Planes
 pub mod Rows
+pub mod Bare

@@ -11,6 +11,7 @@ ghost use Rattle.ranges.specs.Ranges.{span};
 ghost use Rattle.cascades.specs.Prices.{countedPrice, tallied, cascadePrice};
 ghost use Rattle.cascades.specs.Answers.{countedAs, ranAs, tabulatedAs, pricedAs, sound, checkAnswer, runAnswer, tabulateAnswer, tabulateRoom, invertAnswer, invertRoom, priceAnswer};
 
+mod bare;
 mod entries;
 pub mod lengths;
 mod planes;

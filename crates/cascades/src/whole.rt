@@ -3,6 +3,7 @@ ghost use mathlib.Core.Path.{_≡_};
 ghost use Prim.Native.Nat.{_*_, _≤_, _<_, _^_};
 ghost use lib.ListN.{length};
 ghost use Rattle.cascades.specs.Cascades.{Whole, gatesOf, tableOf};
+use crate::bare;
 use crate::entries;
 use crate::planes;
 use crate::rows;
@@ -53,7 +54,9 @@ pub fn write_table(lines: u8, cascade: &[u8], m: usize, table: &mut [u16])
     requires { ⌜ length (now table) ≡ 3 ^ lines ⌝ }
     ensures { λ _. ⌜ now (table .exit) ≡ tableOf lines (gatesOf (now (cascade .entry))) ⌝ }
 {
-    if lines < 6 {
+    if bare::all_bare(lines, cascade, m) {
+        bare::write(lines, cascade, m, table);
+    } else if lines < 6 {
         write_narrow(lines, cascade, m, table);
     } else if rows::quicker(cascade, m) {
         rows::write(lines, cascade, m, table);
