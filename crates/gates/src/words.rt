@@ -133,19 +133,18 @@ pub fn faults_by(lines: u8, row: &[u64], w: u64) -> u64
     faults(row[head_of(w) as usize], w)
 }
 
-// The control bytes, packed in base 4: each is put beside the two above it.
+// The control bytes, packed in base 4: each is put beside the two above it. The operator and the target stay below them.
 fn packed_controls(w: u64) -> u64
-    requires { ⌜ Low w ⌝ }
+    requires { ⌜ Low w × (byte 1 w < 8) ⌝ }
     ensures { λ r. ⌜ (r ≡ pack 4 (λ k. byte (2 + k) w) 6) × (r < 4096) ⌝ }
 {
-    let c = w / 65536;
-    let beside = c + c / 64 + c / 4096;
-    beside % 64 + 64 * (beside / 16777216 % 64)
+    let beside = w + w / 64 + w / 4096;
+    beside / 65536 % 64 + 64 * (beside / 1099511627776 % 64)
 }
 
 // The gate that the word writes down.
 pub fn gate_of(w: u64) -> Gate
-    requires { ⌜ Low w ⌝ }
+    requires { ⌜ Low w × (byte 1 w < 8) ⌝ }
     ensures { λ r. ⌜ r ≡ gateOf w ⌝ }
 {
     Gate {
