@@ -202,6 +202,21 @@ unfolding every sameType isC inverseOp
 inverse-type zero pos lt = absurd (omega arith)
 inverse-type (suc o) pos lt = every-below (λ o. sameType (suc o) (inverseOp (suc o))) 5 refl o (omega arith)
 
+-- operators that no rule takes
+pub types-off : (g h : Gate) → eqb (h .operator) (inverseOp (g .operator)) ≡ false → eqb (g .operator) (h .operator) ≡ false → fits g h ≡ false
+unfolding fits cancels merges reduces
+types-off g h e q = rw (e, q) (off (sameLines g h && eqb (differences g h) 0) (sameLines g h && eqb (differences g h) 0 && isC (g .operator)) (sameLines g h && eqb (differences g h) 1))
+  where
+    off : (x y z : Bool) → (x && false || y && false || z && false) ≡ false
+    off true true true = refl
+    off true true false = refl
+    off true false true = refl
+    off true false false = refl
+    off false true true = refl
+    off false true false = refl
+    off false false true = refl
+    off false false false = refl
+
 equal-type : (a b : ℕ) → eqb a b ≡ true → sameType a b ≡ true
 unfolding sameType
 equal-type a b e = rw e refl
@@ -225,26 +240,12 @@ module _ (g h : Gate) (okg : IsGate 6 g) (okh : IsGate 6 h) where
   lines-on : fits g h ≡ true → sameLines g h ≡ true
   lines-on e = ⊎-elim (λ (q : sameLines g h ≡ true). q) (λ (q : sameLines g h ≡ false). clash (fits g h) e (lines-off q)) (decide (sameLines g h))
 
-  types-off : eqb (h .operator) (inverseOp (g .operator)) ≡ false → eqb (g .operator) (h .operator) ≡ false → fits g h ≡ false
-  unfolding fits cancels merges reduces
-  types-off e q = rw (e, q) (off (sameLines g h && eqb (differences g h) 0) (sameLines g h && eqb (differences g h) 0 && isC (g .operator)) (sameLines g h && eqb (differences g h) 1))
-    where
-      off : (x y z : Bool) → (x && false || y && false || z && false) ≡ false
-      off true true true = refl
-      off true true false = refl
-      off true false true = refl
-      off true false false = refl
-      off false true true = refl
-      off false true false = refl
-      off false false true = refl
-      off false false false = refl
-
   fits-type : fits g h ≡ true → sameType (g .operator) (h .operator) ≡ true
   fits-type e =
       ⊎-elim (λ (q : eqb (g .operator) (h .operator) ≡ true). equal-type (g .operator) (h .operator) q)
       (λ (q : eqb (g .operator) (h .operator) ≡ false).
       ⊎-elim (λ (i : eqb (h .operator) (inverseOp (g .operator)) ≡ true). rw (eqb-true (h .operator) (inverseOp (g .operator)) i) (inverse-type (g .operator) (omega (arith, okg .op-low)) (omega (arith, okg .op-high))))
-      (λ (i : eqb (h .operator) (inverseOp (g .operator)) ≡ false). clash (fits g h) e (types-off i q)) (decide (eqb (h .operator) (inverseOp (g .operator)))))
+      (λ (i : eqb (h .operator) (inverseOp (g .operator)) ≡ false). clash (fits g h) e (types-off g h i q)) (decide (eqb (h .operator) (inverseOp (g .operator)))))
       (decide (eqb (g .operator) (h .operator)))
 
   fits-passes : fits g h ≡ true → mayChange g h ≡ true

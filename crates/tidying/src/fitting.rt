@@ -3,9 +3,11 @@ ghost use mathlib.Core.Path.{_≡_};
 ghost use mathlib.Core.Bool.{true, false};
 ghost use Prim.Native.Nat.{_^_, _<_};
 ghost use Rattle.gates.specs.Gates.{inverse};
-ghost use Rattle.tidying.specs.Rules.{sameLines, cancels, merges, reduces, fits, loosened, retuned};
+ghost use Rattle.gates.specs.Words.{gateOf};
+ghost use Rattle.tidying.specs.Rules.{sameLines, differences, cancels, merges, reduces, fits, loosened, retuned};
 ghost use Rattle.tidying.specs.Tidying.{gate};
 ghost use Rattle.tidying.specs.Buffers.{gatesIn, Holds};
+ghost use Rattle.tidying.specs.Views.{Written};
 use gates::Gate;
 
 // Equal target, and equal set of control lines.
@@ -48,44 +50,68 @@ pub fn merges_pair(g: Gate, h: Gate) -> bool
 }
 
 // One target, and operators that a rule takes: few pairs of gates get past this, and only these are compared line by line.
-fn may_fit(g: Gate, h: Gate) -> bool
-    ensures { λ r. ⌜ (r ≡ false → fits g h ≡ false) ⌝ }
+fn may_fit(g: u64, h: u64) -> bool
+    requires { ⌜ Written g × Written h ⌝ }
+    ensures { λ r. ⌜ (r ≡ false → fits (gateOf g) (gateOf h) ≡ false) ⌝ }
 {
-    if g.target != h.target {
+    if g / 256 % 256 != h / 256 % 256 {
         return false;
     }
-    if g.operator == h.operator {
+    if g % 256 == h % 256 {
         return true;
     }
-    h.operator == gates::invert_op(g.operator)
+    (h % 256) as u8 == gates::invert_op((g % 256) as u8)
+}
+
+// On how many lines the controls differ.
+fn count_apart(g: u64, h: u64) -> u64
+    requires { ⌜ Written g × Written h ⌝ }
+    ensures { λ r. ⌜ r ≡ differences (gateOf g) (gateOf h) ⌝ }
+{
+    gates::words::mark_others(g, h / 65536) % 255
+}
+
+// Equal target, and equal set of control lines, of all lines at once.
+fn share_lines(g: u64, h: u64) -> bool
+    requires { ⌜ Written g × Written h ⌝ }
+    ensures { λ r. ⌜ r ≡ sameLines (gateOf g) (gateOf h) ⌝ }
+{
+    if g / 256 % 256 != h / 256 % 256 {
+        return false;
+    }
+    gates::words::mark_controls(g) == gates::words::mark_controls(h)
 }
 
 // A rule fits: the lines are compared once for all three.
-fn fits_closely(g: Gate, h: Gate) -> bool
-    ensures { λ r. ⌜ r ≡ fits g h ⌝ }
+fn fits_closely(g: u64, h: u64) -> bool
+    requires { ⌜ Written g × Written h ⌝ }
+    ensures { λ r. ⌜ r ≡ fits (gateOf g) (gateOf h) ⌝ }
 {
-    if !same_lines(g, h) {
+    if !share_lines(g, h) {
         return false;
     }
-    let apart = super::controls::count_differences(g.controls, h.controls);
+    let apart = count_apart(g, h);
+    let first = (g % 256) as u8;
+    let second = (h % 256) as u8;
     if apart == 0 {
-        if h.operator == gates::invert_op(g.operator) {
+        if second == gates::invert_op(first) {
             return true;
         }
-        if !super::passing::is_c(g.operator) {
+        if !super::passing::is_c(first) {
             return false;
         }
-        return g.operator == h.operator;
+        return first == second;
     }
     if apart != 1 {
         return false;
     }
-    g.operator == h.operator
+    first == second
 }
 
 // A rule fits.
-pub fn fits_pair(g: Gate, h: Gate) -> bool
-    ensures { λ r. ⌜ r ≡ fits g h ⌝ }
+pub fn fits_pair(g: u64, h: u64) -> bool
+    requires { ⌜ Written g × Written h ⌝ }
+    ensures { λ r. ⌜ r ≡ fits (gateOf g) (gateOf h) ⌝ }
 {
     if may_fit(g, h) {
         return fits_closely(g, h);
@@ -98,10 +124,7 @@ pub fn fits_places(b: &[u8], m: usize, i: usize, j: usize) -> bool
     requires { ⌜ Holds (now b) (gatesIn (now b) m) × (i < m) × (j < m) ⌝ }
     ensures { λ r. ⌜ r ≡ fits (gate (gatesIn (now (b .entry)) m) i) (gate (gatesIn (now (b .entry)) m) j) ⌝ }
 {
-    fits_pair(
-        super::buffer::read_gate(b, i),
-        super::buffer::read_gate(b, j),
-    )
+    fits_pair(super::views::word(b, m, i), super::views::word(b, m, j))
 }
 
 // The gate with the inverse operator.

@@ -120,10 +120,11 @@ fn look_again(b: &[u8], m: usize, p: usize, g: Gate, r: usize, n: u16) -> u16
         return p as u16;
     }
     let h = super::views::word(b, m, r);
-    if !super::passing::may_change(h, gates::words::word_of(g)) {
+    let w = gates::words::word_of(g);
+    if !super::passing::may_change(h, w) {
         return p as u16;
     }
-    if super::fitting::fits_pair(super::buffer::read_gate(b, r), g) {
+    if super::fitting::fits_pair(h, w) {
         return p as u16;
     }
     n

@@ -5,13 +5,13 @@ use Rattle.tidying.proofs.fitting.fits_pair.Statement.{statement}
 use Rattle.tidying.proofs.fitting.fits_pair.Tie as tie
 
 may-fit-requires : tie.Need-may-fit-requires
-may-fit-requires c κs = search needs
+may-fit-requires c κs = c .pre
 
 fits-closely-requires : tie.Need-fits-closely-requires
-fits-closely-requires c κs = search needs
+fits-closely-requires c κs = c .before .before .pre
 
 returns : tie.Need-returns
-returns c = search needs
+returns c = c .fits-closely .ensures
 
 returns-2 : tie.Need-returns-2
 returns-2 c = sym (c .before .may-fit .ensures (c .if1 .left))

@@ -1,17 +1,15 @@
 -- `tidying::memory::look_again` meets its contract: the row does not reach p, or its pair with the new gate is looked at. Assumes nothing.
-use mathlib.Core.Path.{_≡_, sym, ap, ap₂, _∙_}
-use mathlib.Core.Bool.{true}
-use Prim.Native.Nat.{_^_, _<_, _≤_}
+use mathlib.Core.Path.{_≡_, sym, ap₂, _∙_}
+use Prim.Native.Nat.{_<_}
 use native.Mathlib.Omega.{arith}
 use lib.ListN.{length}
 use borrow.Author.Tests.{not-false}
-use Rattle.gates.specs.declared.Gate.{Gate}
 use Rattle.gates.specs.Words.{gateOf}
 use Rattle.tidying.specs.Places.{mayChange}
 use Rattle.tidying.specs.Rules.{fits}
-use Rattle.tidying.specs.Tidying.{gate}
 use Rattle.tidying.specs.Buffers.{gatesIn}
-use Rattle.tidying.proofs.Buffers.{length-gates, gate-in, holds-fits, holds-lines}
+use Rattle.tidying.specs.Views.{Written}
+use Rattle.tidying.proofs.Buffers.{length-gates}
 use Rattle.tidying.proofs.Words.{gate-word, written-word}
 use Rattle.tidying.proofs.Rows.{again-near, again-quiet, again-cut}
 use borrow.Author.Needs.{needs}
@@ -19,11 +17,15 @@ use Rattle.tidying.proofs.memory.look_again.Statement.{statement}
 use Rattle.tidying.proofs.memory.look_again.Tie as tie
 
 module _ (c : tie.Start) where
-  inside : c .args .r < length (gatesIn (c .args .b .now) (c .args .m))
-  inside = rw (length-gates (c .args .b .now) (c .args .m)) (omega arith)
-
   p-inside : c .args .p < length (gatesIn (c .args .b .now) (c .args .m))
   p-inside = rw (length-gates (c .args .b .now) (c .args .m)) (c .pre .1 .1)
+
+module _ (c : tie.After-word-of) where
+  same : gateOf (c .word-of .result) ≡ c .before .before .before .before .before .args .g
+  same = gate-word _ _ (c .word-of .ensures) (c .before .before .before .before .before .pre .1 .3)
+
+  written : Written (c .word-of .result)
+  written = written-word _ _ (c .word-of .ensures) (c .before .before .before .before .before .pre .1 .3) (c .word-of .ok)
 
 cast-c : tie.Need-cast-c
 cast-c c = search needs
@@ -44,7 +46,7 @@ word-of-requires : tie.Need-word-of-requires
 word-of-requires c κs = search needs
 
 may-change-requires : tie.Need-may-change-requires
-may-change-requires c κs = (c .before .word .ensures .0, written-word _ _ (c .word-of .ensures) (c .before .before .before .before .before .pre .1 .3) (c .word-of .ok))
+may-change-requires c κs = (c .before .word .ensures .0, written c)
 
 cast-result-2 : tie.Need-cast-result-2
 cast-result-2 c = search needs
@@ -52,27 +54,20 @@ cast-result-2 c = search needs
 returns-3 : tie.Need-returns-3
 returns-3 c = again-cut _ _ _ _ _ (p-inside (c .before .before .before .before .before .before .before)) (λ e. omega arith) (c .before .before .before .before .before .before .before .pre .1 .4) (c .before .before .before .before .before .before .before .pre .1 .0) (omega arith) (omega (arith, c .before .before .before .before .before .if1 .left))
 
-read-gate-requires : tie.Need-read-gate-requires
-read-gate-requires c κs = (holds-fits _ _ (c .before .before .before .before .before .before .before .pre .0) _ (inside (c .before .before .before .before .before .before .before)), holds-lines _ _ (c .before .before .before .before .before .before .before .pre .0) _ (inside (c .before .before .before .before .before .before .before)))
-
 fits-pair-requires : tie.Need-fits-pair-requires
-fits-pair-requires c κs = search needs
+fits-pair-requires c κs = (c .before .before .before .word .ensures .0, written (c .before .before))
 
 cast-result-3 : tie.Need-cast-result-3
 cast-result-3 c = search needs
 
 returns-4 : tie.Need-returns-4
-returns-4 c = again-cut _ _ _ _ _ (p-inside (c .before .before .before .before .before .before .before .before .before .before)) (λ e. omega arith) (c .before .before .before .before .before .before .before .before .before .before .pre .1 .4) (c .before .before .before .before .before .before .before .before .before .before .pre .1 .0) (omega arith) (omega (arith, c .before .before .before .before .before .before .before .before .if1 .left))
+returns-4 c = again-cut _ _ _ _ _ (p-inside (c .before .before .before .before .before .before .before .before .before)) (λ e. omega arith) (c .before .before .before .before .before .before .before .before .before .pre .1 .4) (c .before .before .before .before .before .before .before .before .before .pre .1 .0) (omega arith) (omega (arith, c .before .before .before .before .before .before .before .if1 .left))
 
 returns-5 : tie.Need-returns-5
 returns-5 c =
-    let row-gate : c .before .before .read-gate .result ≡ gate (gatesIn (c .before .before .before .before .before .before .before .before .before .before .args .b .now) (c .before .before .before .before .before .before .before .before .before .before .args .m)) (c .before .before .before .before .before .before .before .before .before .before .args .r) =
-    c .before .before .read-gate .ensures ∙ sym (gate-in (c .before .before .before .before .before .before .before .before .before .before .args .b .now) (c .before .before .before .before .before .before .before .before .before .before .args .m) (c .before .before .before .before .before .before .before .before .before .before .args .r) (omega arith)) in
-    let new-gate : gateOf (c .before .before .before .before .before .word-of .result) ≡ c .before .before .before .before .before .before .before .before .before .before .args .g = gate-word _ _ (c .before .before .before .before .before .word-of .ensures) (c .before .before .before .before .before .before .before .before .before .before .pre .1 .3) in
-    let may : mayChange (gate (gatesIn (c .before .before .before .before .before .before .before .before .before .before .args .b .now) (c .before .before .before .before .before .before .before .before .before .before .args .m)) (c .before .before .before .before .before .before .before .before .before .before .args .r)) (c .before .before .before .before .before .before .before .before .before .before .args .g) ≡ true =
-    ap₂ mayChange (sym (c .before .before .before .before .before .before .word .ensures .1)) (sym new-gate) ∙ sym (c .before .before .before .before .may-change .ensures) ∙ not-false _ (c .before .before .before .if3 .left) in
-    again-quiet _ _ _ _ _ (p-inside (c .before .before .before .before .before .before .before .before .before .before)) (λ e. omega arith) (c .before .before .before .before .before .before .before .before .before .before .pre .1 .4) (c .before .before .before .before .before .before .before .before .before .before .pre .1 .0) (omega arith) (omega (arith, c .before .before .before .before .before .before .before .before .if1 .left, c .before .before .before .before .before .before .before .if2 .left))
-    (ap (λ (x : Gate). fits x (c .before .before .before .before .before .before .before .before .before .before .args .g)) (sym row-gate) ∙ sym (c .before .fits-pair .ensures) ∙ c .if4 .left) may
+    again-quiet _ _ _ _ _ (p-inside (c .before .before .before .before .before .before .before .before .before)) (λ e. omega arith) (c .before .before .before .before .before .before .before .before .before .pre .1 .4) (c .before .before .before .before .before .before .before .before .before .pre .1 .0) (omega arith) (omega (arith, c .before .before .before .before .before .before .before .if1 .left, c .before .before .before .before .before .before .if2 .left))
+    (ap₂ fits (sym (c .before .before .before .before .before .word .ensures .1)) (sym (same (c .before .before .before .before))) ∙ sym (c .before .fits-pair .ensures) ∙ c .if4 .left)
+    (ap₂ mayChange (sym (c .before .before .before .before .before .word .ensures .1)) (sym (same (c .before .before .before .before))) ∙ sym (c .before .before .before .may-change .ensures) ∙ not-false _ (c .before .before .if3 .left))
 
 pub look-again-spec : {M : Type 1} → statement M
 look-again-spec =
@@ -87,7 +82,6 @@ look-again-spec =
     may-change-requires
     cast-result-2
     returns-3
-    read-gate-requires
     fits-pair-requires
     cast-result-3
     returns-4

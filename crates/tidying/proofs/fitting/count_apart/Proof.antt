@@ -1,0 +1,16 @@
+-- `tidying::fitting::count_apart` meets its contract: modulo 255 the marks are counted. Assumes nothing.
+use mathlib.Core.Path.{_≡_}
+use Rattle.gates.proofs.Bytes.{byte-high}
+use Rattle.tidying.proofs.Words.{apart-counted}
+use borrow.Author.Needs.{needs}
+use Rattle.tidying.proofs.fitting.count_apart.Statement.{statement}
+use Rattle.tidying.proofs.fitting.count_apart.Tie as tie
+
+mark-others-requires : tie.Need-mark-others-requires
+mark-others-requires c κs = (c .pre .0 .lines, λ k l. rw (byte-high k (c .args .h)) (c .pre .1 .lines .each k l))
+
+returns : tie.Need-returns
+returns c = rw (c .mark-others .ensures) (apart-counted (c .before .args .g) (c .before .args .h) (c .before .pre .0 .lines) (c .before .pre .1 .lines))
+
+pub count-apart-spec : {M : Type 1} → statement M
+count-apart-spec = tie.close (tie.spec mark-others-requires returns)
