@@ -4,10 +4,10 @@ use mathlib.Core.Path.{_≡_, refl, sym, ap, ap₂, _∙_}
 use mathlib.Core.Logic.{⊎-elim}
 use mathlib.Core.Bool.{Bool, true, false, not, _&&_}
 use mathlib.Core.List.{List}
-use Prim.Native.Nat.{ℕ, zero, suc, _+_, _-_, _%_, _<_, _≤_}
+use Prim.Native.Nat.{ℕ, zero, suc, _+_, _<_, _≤_}
 use native.Mathlib.Omega.{arith}
 use lib.Dec.{eqb}
-use lib.ListN.{length, getD, set, length-set}
+use lib.ListN.{length, set, length-set}
 use lib.Seq.{getD-set-other, set-comm}
 use borrow.Author.Tests.{ne-eqb}
 use Rattle.ranges.specs.Lists.{Each}
@@ -24,7 +24,7 @@ use Rattle.tidying.specs.Buffers.{gap, isGap, Stands, kept, rank}
 use Rattle.tidying.specs.Rows.{Quiet, Clear, Stops, Known, Low, PairAt}
 use Rattle.tidying.proofs.Gaps.{by-place, rank-all, rank-le, rank-mono, rank-rises, rank-lt, gate-kept, Standing, stands-at, rank-before, kept-set, kept-gone}
 use Rattle.tidying.proofs.Steps.{ruled-cancel, ruled-merge, ruled-reduce}
-use Rattle.tidying.proofs.Rows.{clear-next, row-gap, row, row-ends, row-stops, row-fits, row-hits}
+use Rattle.tidying.proofs.Rows.{row, row-ends, row-stops, row-fits, row-hits}
 
 -- ---- a gate and a gap
 

@@ -1,15 +1,15 @@
 -- Views: a gate that meets nothing of the views and the kinds of many gates is quiet with each of them (`passed-next`), and what is known of stretches stays true
 -- where a gate is replaced. What is finite is computed. Assumes nothing.
-use mathlib.Core.Path.{_≡_, refl, sym, ap, ap₂, _∙_, subst}
+use mathlib.Core.Path.{_≡_, refl, sym, ap, ap₂, _∙_}
 use mathlib.Core.Logic.{⊎-elim}
 use mathlib.Core.Bool.{Bool, true, false, cond, not, _&&_, _||_}
 use mathlib.Core.List.{List, _++_}
-use Prim.Native.Nat.{ℕ, zero, suc, _+_, _-_, _*_, _/_, _%_, _^_, _<_, _≤_, min, max}
+use Prim.Native.Nat.{ℕ, zero, suc, _+_, _*_, _/_, _%_, _^_, _<_, _≤_, min, max}
 use native.Mathlib.Nat.{zero-mul, add-zero, le-trans, mul-le-mul-left}
 use native.Mathlib.Decide.{ℕ-discrete}
 use native.Mathlib.Omega.{arith}
 use lib.Arith.{bin-ind}
-use lib.Bits.{bitAnd, bitOr, and-step, or-step, or-shr, and-zero-l, or-zero-l, and-comm, and-self, and-mask}
+use lib.Bits.{bitAnd, bitOr, and-step, or-step, or-shr, and-zero-l, and-comm, and-self, and-mask}
 use lib.Dec.{eqb, ltb, leb}
 use lib.ListN.{length, getD, set, drop, length-set, length-append, length-drop}
 use lib.Seq.{getD-set-same, getD-set-other}

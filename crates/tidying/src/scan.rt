@@ -1,5 +1,4 @@
 // The search for the first open pair that fits a rule.
-ghost use mathlib.Core.Path.{_≡_};
 ghost use Prim.Native.Nat.{_≤_};
 ghost use Rattle.tidying.specs.Buffers.{gatesIn, Holds};
 ghost use Rattle.tidying.specs.Rows.{Known, Low, Reached, PairAt};

@@ -2,12 +2,11 @@
 ghost use mathlib.Core.Path.{_≡_};
 ghost use mathlib.Core.Bool.{true, false};
 ghost use mathlib.Core.List.{_++_};
-ghost use Prim.Native.Nat.{ℕ, _+_, _*_, _^_, _≤_, _<_};
+ghost use Prim.Native.Nat.{_+_, _*_, _^_, _≤_, _<_};
 ghost use lib.Bits.{bitAnd};
 ghost use lib.ListN.{length, getD, set, drop};
 ghost use Rattle.ranges.specs.Ranges.{span};
 ghost use Rattle.gates.specs.Words.{gateOf};
-ghost use Rattle.gates.specs.Gates.{IsGate};
 ghost use Rattle.tidying.specs.Tidying.{gate};
 ghost use Rattle.tidying.specs.Buffers.{gatesIn, isGap, Stands, Holds};
 ghost use Rattle.tidying.specs.Rows.{Clear};

@@ -1,5 +1,4 @@
 -- `tidying::applying::replace` meets its contract: the rows are settled for the new gate, it is stored, and its stretch is forgotten. Assumes nothing.
-use mathlib.Core.Path.{_≡_}
 use Prim.Native.Nat.{_+_, _*_, _<_, _≤_}
 use native.Mathlib.Omega.{arith}
 use lib.ListN.{length}

@@ -1,5 +1,4 @@
 -- `tidying::fitting::count_apart` meets its contract: modulo 255 the marks are counted. Assumes nothing.
-use mathlib.Core.Path.{_≡_}
 use Rattle.gates.proofs.Bytes.{byte-high}
 use Rattle.tidying.proofs.Words.{apart-counted}
 use borrow.Author.Needs.{needs}

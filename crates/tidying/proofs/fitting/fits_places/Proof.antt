@@ -1,5 +1,5 @@
 -- `tidying::fitting::fits_places` meets its contract: the records read as the gates. Assumes nothing.
-use mathlib.Core.Path.{_≡_, ap₂, _∙_}
+use mathlib.Core.Path.{ap₂, _∙_}
 use Rattle.tidying.specs.Rules.{fits}
 use borrow.Author.Needs.{needs}
 use Rattle.tidying.proofs.fitting.fits_places.Statement.{statement}

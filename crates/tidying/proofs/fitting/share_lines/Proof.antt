@@ -1,5 +1,4 @@
 -- `tidying::fitting::share_lines` meets its contract: equal marks are equal sets of lines. Assumes nothing.
-use mathlib.Core.Path.{_≡_}
 use borrow.Author.Tests.{eq-eqb, ne-eqb}
 use Rattle.tidying.specs.Rules.{sameLines}
 use Rattle.tidying.proofs.Words.{target-word, marks-same}

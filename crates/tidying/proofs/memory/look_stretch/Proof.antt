@@ -2,7 +2,7 @@
 -- measured again. Assumes nothing.
 use mathlib.Core.Path.{refl}
 use native.Mathlib.Omega.{arith}
-use Prim.Native.Nat.{_+_, _*_, _<_, _≤_}
+use Prim.Native.Nat.{_<_}
 use lib.ListN.{length, length-set}
 use Rattle.tidying.specs.Buffers.{gatesIn}
 use Rattle.tidying.proofs.Buffers.{length-gates}

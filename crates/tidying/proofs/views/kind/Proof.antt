@@ -1,5 +1,5 @@
 -- `tidying::views::kind` meets its contract: a gap has no kind, a gate the bit for its control lines. Assumes nothing.
-use mathlib.Core.Path.{_≡_, sym, _∙_, ap}
+use mathlib.Core.Path.{sym, _∙_, ap}
 use Prim.Native.Nat.{ℕ, _^_}
 use native.Mathlib.Omega.{arith}
 use Rattle.tidying.specs.Views.{folded}

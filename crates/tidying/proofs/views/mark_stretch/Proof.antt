@@ -1,5 +1,4 @@
 -- `tidying::views::mark_stretch` meets its contract: it is known, or is looked at. Assumes nothing.
-use mathlib.Core.Path.{_≡_}
 use Prim.Native.Nat.{_+_, _*_, _<_, _≤_}
 use native.Mathlib.Omega.{arith}
 use lib.ListN.{length, length-set}

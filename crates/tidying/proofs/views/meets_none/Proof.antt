@@ -1,6 +1,6 @@
 -- `tidying::views::meets_none` meets its contract: both sets are looked at. Assumes nothing.
-use mathlib.Core.Path.{_≡_, refl}
-use mathlib.Core.Bool.{true, false}
+use mathlib.Core.Path.{refl}
+use mathlib.Core.Bool.{false}
 use native.Mathlib.Omega.{arith}
 use Rattle.ranges.proofs.Bools.{clash}
 use borrow.Author.Tests.{eqb-true}

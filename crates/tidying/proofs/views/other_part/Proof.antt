@@ -1,5 +1,5 @@
 -- `tidying::views::other_part` meets its contract: one case for each operator. Assumes nothing.
-use mathlib.Core.Path.{_≡_, refl}
+use mathlib.Core.Path.{refl}
 use native.Mathlib.Omega.{arith}
 use borrow.Author.Tests.{ne-eqb}
 use Rattle.tidying.specs.Places.{isC}

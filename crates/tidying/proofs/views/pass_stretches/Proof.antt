@@ -1,17 +1,16 @@
 -- `tidying::views::pass_stretches` meets its contract: the row is clear up to stretch s. Assumes nothing.
-use mathlib.Core.Path.{_≡_, refl, sym, ap, _∙_}
+use mathlib.Core.Path.{_≡_, refl, _∙_}
 use mathlib.Core.List.{List}
 use Prim.Native.Nat.{ℕ, _+_, _-_, _*_, _/_, _<_, _≤_}
 use native.Mathlib.Omega.{arith}
-use lib.ListN.{length, getD}
-use lib.Bits.{bitAnd}
+use lib.ListN.{length}
 use borrow.Author.Tests.{not-false}
 use Rattle.gates.specs.declared.Gate.{Gate}
 use Rattle.gates.specs.Gates.{IsGate}
 use Rattle.tidying.specs.Tidying.{gate}
 use Rattle.tidying.specs.Buffers.{gatesIn}
 use Rattle.tidying.specs.Rows.{Clear}
-use Rattle.tidying.specs.Views.{againstOf, kindOf, Marked}
+use Rattle.tidying.specs.Views.{Marked}
 use Rattle.tidying.proofs.Buffers.{length-gates, holds-gate}
 use Rattle.tidying.proofs.Stretches.{clear-stretch}
 use borrow.Author.Needs.{needs}

@@ -1,12 +1,9 @@
 -- `tidying::views::stretch_of` meets its contract: the sets of the places before k are put together. Assumes nothing.
 use mathlib.Core.Path.{_≡_, ap, _∙_}
-use mathlib.Core.List.{List}
 use Prim.Native.Nat.{ℕ, _+_, _-_, _<_, _≤_}
 use native.Mathlib.Nat.{add-zero}
 use native.Mathlib.Omega.{arith}
 use lib.ListN.{length}
-use Rattle.gates.specs.Words.{gateOf}
-use Rattle.tidying.specs.Tidying.{gate}
 use Rattle.tidying.specs.Buffers.{gatesIn}
 use Rattle.tidying.specs.Views.{viewOf, kindOf, Passed}
 use Rattle.tidying.proofs.Buffers.{length-gates}

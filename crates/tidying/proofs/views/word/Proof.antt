@@ -4,7 +4,7 @@ use Prim.Native.Nat.{ℕ, _*_, _<_}
 use native.Mathlib.Omega.{arith}
 use lib.ListN.{length}
 use Rattle.gates.specs.declared.Gate.{Gate}
-use Rattle.gates.specs.Words.{byte, gateOf, Word}
+use Rattle.gates.specs.Words.{byte, gateOf}
 use Rattle.gates.proofs.Bytes.{control-byte, word-gate}
 use Rattle.tidying.specs.Tidying.{gate}
 use Rattle.tidying.specs.Buffers.{gatesIn}
