@@ -324,11 +324,6 @@ row-real gs r n w lt =
 pub row-clear : (gs : List Gate) (r n : ℕ) → Row gs r n → n < 16384 → Clear gs r n
 row-clear gs r n w lt = let e : n % 16384 ≡ n = omega arith in rw e at (w .clear (row-real gs r n w lt))
 
--- a row that is clear up to nothing is that of a gap
-pub row-gap : (gs : List Gate) (r n : ℕ) → Row gs r n → n % 16384 ≡ 0 → isGap (gate gs r) ≡ true
-row-gap gs r n w e =
-    ⊎-elim (λ (q : isGap (gate gs r) ≡ true). q) (λ (q : isGap (gate gs r) ≡ false). absurd (omega (arith, w .clear q .order))) (decide (isGap (gate gs r)))
-
 -- row x stops at c
 pub known-stops : (gs : List Gate) (s : List ℕ) (x c : ℕ) → x < length gs → length gs ≤ 8000 → Known gs s → isGap (gate gs x) ≡ false → Clear gs x c → Stops gs x c
     → Known gs (set s x (c + 16384))
