@@ -1,7 +1,7 @@
 -- A gate in front of a table. `row-one` and `row-two` say that a gate with a control on every other line exchanges entries of one row, `parted` that a gate
 -- that leaves a line free is three gates, one for each digit there. Assumes nothing.
 use mathlib.Core.Path.{_≡_, refl, sym, ap, _∙_}
-use mathlib.Core.Bool.{Bool, true, false, cond, _&&_, _||_}
+use mathlib.Core.Bool.{Bool, true, false, cond, _||_}
 use mathlib.Core.List.{List}
 use mathlib.Core.Logic.{_⊎_, ⊎-elim}
 use Prim.Native.Nat.{ℕ, zero, suc, _+_, _-_, _*_, _/_, _%_, _^_, _≤_, _<_}
@@ -11,7 +11,7 @@ use native.Mathlib.Omega.{arith}
 use lib.Dec.{eqb, leb, ltb}
 use lib.ListN.{length, getD, set}
 use lib.Seq.{getD-set-same, getD-set-other, ext-getD}
-use borrow.Author.Tests.{eqb-true, eqb-false, ltb-true, eq-eqb, ne-eqb, le-leb, lt-ltb, le-ltb}
+use borrow.Author.Tests.{eqb-true, ltb-true, eq-eqb, ne-eqb, le-leb, lt-ltb, le-ltb}
 use Rattle.ranges.specs.Ranges.{every, span}
 use Rattle.ranges.proofs.Spans.{length-span, span-at}
 use Rattle.ranges.proofs.Bools.{decide, clash}
@@ -21,16 +21,15 @@ use Rattle.digits.specs.Digits.{digit, put}
 use Rattle.digits.proofs.Digits.{digit-lt, digit-le, digit-put-same, digit-put-other, digits-equal, put-put, put-lt, put-value}
 use Rattle.digits.proofs.Packs.{pack-lt}
 use Rattle.digits.proofs.Sizes.{patterns-some}
-use Rattle.digits.proofs.Three.{three}
 use Rattle.gates.specs.declared.Gate.{Gate}
 use Rattle.gates.specs.Gates.{act, control, holds, firesOn, fires, applied, IsGate}
 use Rattle.gates.specs.Records.{isRecord}
-use Rattle.gates.specs.Words.{byte, Word, Low, gateOf, controlMarks}
+use Rattle.gates.specs.Words.{byte, Word, Low, gateOf}
 use Rattle.gates.proofs.Operators.{act-lt}
 use Rattle.gates.proofs.Gates.{applied-yes, applied-no, applied-lt, holds-none}
 use Rattle.gates.proofs.Records.{reads, line-none, line-at, byte-lt}
 use Rattle.gates.proofs.Bytes.{control-byte}
-use Rattle.gates.proofs.Marks.{control-mark, control-word}
+use Rattle.gates.proofs.Marks.{control-word}
 use Rattle.cascades.specs.Rows.{GateWord, Free, Filled, baseOf, exchanged, order, After}
 use Rattle.cascades.specs.Cascades.{records, gatesOf, ran, tableOf}
 use Rattle.cascades.proofs.Cascades.{gateOf as gateAtPlace, run-more, run-ends}

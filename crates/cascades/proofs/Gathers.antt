@@ -20,7 +20,7 @@ use Rattle.digits.proofs.Bits.{digit-and}
 use Rattle.gates.specs.Words.{byte, Held, controlMarks}
 use Rattle.gates.proofs.Bytes.{byte-high}
 use Rattle.gates.proofs.Marks.{control-mark}
-use Rattle.cascades.specs.Rows.{GateWord, Free, Filled, baseOf}
+use Rattle.cascades.specs.Rows.{GateWord, Filled, baseOf}
 
 pub place-is : (k : ℕ) → k ≤ 7 → (1 * 2 ^ (8 * k)) % 18446744073709551616 ≡ 256 ^ k
 unfolding every

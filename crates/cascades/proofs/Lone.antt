@@ -1,14 +1,14 @@
 -- Gates with no controls: `says-next` is one turn of the loop that follows the digits of each line, and `says-table` that they say the table.
 -- Assumes nothing.
 use mathlib.Core.Path.{_≡_, refl, sym, ap, _∙_}
-use mathlib.Core.Bool.{Bool, true, cond}
+use mathlib.Core.Bool.{Bool, true}
 use mathlib.Core.List.{List, [], _∷_}
 use Prim.Native.Nat.{ℕ, zero, suc, _+_, _*_, _/_, _%_, _^_, _≤_, _<_}
 use native.Mathlib.Nat.{add-zero, lt-of-lt-of-le}
 use native.Mathlib.Decide.{ℕ-discrete}
 use native.Mathlib.Omega.{arith}
 use lib.Dec.{eqb, ltb}
-use lib.ListN.{length, getD, set, length-set}
+use lib.ListN.{length, getD, length-set}
 use lib.Seq.{getD-set-same, getD-set-other}
 use borrow.Author.Tests.{eqb-true, ltb-true}
 use Rattle.ranges.specs.Ranges.{every, span, sum}
@@ -16,7 +16,7 @@ use Rattle.ranges.specs.Lists.{Each}
 use Rattle.ranges.proofs.Tests.{every-below, every-of}
 use Rattle.ranges.proofs.Lists.{through-nil}
 use Rattle.ranges.proofs.Spans.{span-ext, span-none}
-use Rattle.digits.specs.Digits.{digit, put, pack}
+use Rattle.digits.specs.Digits.{digit, pack}
 use Rattle.digits.proofs.Digits.{digit-lt, digit-put-same, digit-put-other}
 use Rattle.digits.proofs.Packs.{pack-digits, pack-ext}
 use Rattle.digits.proofs.Sizes.{patterns-most}

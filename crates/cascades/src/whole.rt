@@ -54,7 +54,7 @@ pub fn write_table(lines: u8, cascade: &[u8], m: usize, table: &mut [u16])
     requires { ⌜ length (now table) ≡ 3 ^ lines ⌝ }
     ensures { λ _. ⌜ now (table .exit) ≡ tableOf lines (gatesOf (now (cascade .entry))) ⌝ }
 {
-    if bare::all_bare(lines, cascade, m) {
+    if bare::quicker(lines, cascade, m, table.len()) {
         bare::write(lines, cascade, m, table);
     } else if lines < 6 {
         write_narrow(lines, cascade, m, table);

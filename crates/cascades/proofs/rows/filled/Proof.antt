@@ -1,10 +1,8 @@
 -- `cascades::rows::filled` meets its contract: marks on all lines leave none free. Assumes nothing.
-use mathlib.Core.Path.{_≡_, sym, ap, _∙_}
-use Prim.Native.Nat.{_+_, _*_, _/_, _%_, _^_, _≤_, _<_}
+use Prim.Native.Nat.{_/_, _%_, _<_}
 use native.Mathlib.Omega.{arith}
 use borrow.Author.Needs.{needs}
 use borrow.Author.Tests.{eqb-true}
-use Rattle.gates.specs.Words.{byte}
 use Rattle.gates.proofs.Bytes.{byte-one, weight-most}
 use Rattle.gates.proofs.Marks.{marks-lt}
 use Rattle.cascades.proofs.Gathers.{place-some, marks-fill}

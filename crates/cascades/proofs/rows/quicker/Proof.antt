@@ -1,15 +1,17 @@
 -- `cascades::rows::quicker` ends, and nothing in it overflows. Assumes nothing.
-use native.Mathlib.Omega.{arith}
 use Prim.Native.Nat.{_+_, _*_, _-_, _≤_}
 use borrow.Author.Needs.{needs}
 use Rattle.cascades.proofs.rows.quicker.Statement.{statement}
 use Rattle.cascades.proofs.rows.quicker.Tie as tie
 
 abbrev Inv-loop : tie.InvT-loop
-Inv-loop cascade m rows₀ asked₀ i₀ rows asked i = (rows ≤ 243 * asked) × (8 * asked ≤ i) × (i ≤ m + 7)
+Inv-loop cascade m step rows₀ i₀ rows i = (1 ≤ step) × (step ≤ 8) × (rows ≤ 243 * i) × (i ≤ m + 7)
 
 abbrev μ-loop : tie.MeasureT-loop
-μ-loop cascade m rows₀ asked₀ i₀ rows asked i = m - i
+μ-loop cascade m step rows₀ i₀ rows i = m - i
+
+step-of-requires : tie.Need-step-of-requires Inv-loop μ-loop
+step-of-requires c κs = search needs
 
 loop-holds : tie.Need-loop-holds Inv-loop μ-loop
 loop-holds c = search needs
@@ -26,9 +28,6 @@ rows-of-requires c κs = search needs
 add-rows : tie.Need-add-rows Inv-loop μ-loop
 add-rows c = search needs
 
-add-asked : tie.Need-add-asked Inv-loop μ-loop
-add-asked c = search needs
-
 add-i : tie.Need-add-i Inv-loop μ-loop
 add-i c = search needs
 
@@ -38,11 +37,14 @@ loop-less c = search needs
 loop-again : tie.Need-loop-again Inv-loop μ-loop
 loop-again c = search needs
 
-mul-result : tie.Need-mul-result Inv-loop μ-loop
-mul-result c = search needs
+add-result : tie.Need-add-result Inv-loop μ-loop
+add-result c = search needs
 
-mul-result-2 : tie.Need-mul-result-2 Inv-loop μ-loop
-mul-result-2 c = search needs
+add-result-2 : tie.Need-add-result-2 Inv-loop μ-loop
+add-result-2 c = search needs
+
+div-result : tie.Need-div-result Inv-loop μ-loop
+div-result c = search needs
 
 returns : tie.Need-returns Inv-loop μ-loop
 returns c = search needs
@@ -53,15 +55,16 @@ quicker-spec =
     (tie.spec
     Inv-loop
     μ-loop
+    step-of-requires
     loop-holds
     mul-word-at
     word-at-requires
     rows-of-requires
     add-rows
-    add-asked
     add-i
     loop-less
     loop-again
-    mul-result
-    mul-result-2
+    add-result
+    add-result-2
+    div-result
     returns)

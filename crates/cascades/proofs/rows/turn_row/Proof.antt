@@ -1,6 +1,4 @@
 -- `cascades::rows::turn_row` meets its contract: the exchanges move the entries of the one row on which the gate fires. Assumes nothing.
-use mathlib.Core.Path.{_≡_, _∙_}
-use Prim.Native.Nat.{_%_, _≤_, _<_}
 use native.Mathlib.Omega.{arith}
 use borrow.Author.Needs.{needs}
 use Rattle.digits.proofs.Digits.{digit-zero}

@@ -1,6 +1,5 @@
 -- `cascades::rows::write` meets its contract: the room holds the table of the gates that the loop has passed. Assumes nothing.
 use mathlib.Core.Path.{_≡_, sym, _∙_}
-use Prim.Native.Nat.{_*_, _/_, _-_}
 use native.Mathlib.Omega.{arith}
 use borrow.Author.Needs.{needs}
 use Rattle.card.proofs.Cards.{lines-are}

@@ -3,17 +3,17 @@ use borrow.Author.Needs.{needs}
 use Rattle.cascades.proofs.whole.write_table.Statement.{statement}
 use Rattle.cascades.proofs.whole.write_table.Tie as tie
 
-all-bare-requires : tie.Need-all-bare-requires
-all-bare-requires c κs = search needs
+quicker-requires : tie.Need-quicker-requires
+quicker-requires c κs = search needs
 
 write-requires : tie.Need-write-requires
-write-requires c κs = let start = c .before .before .before .before .before in (start .pre .0, (c .before .before .all-bare .ensures (c .before .if1 .taken), start .pre .1))
+write-requires c κs = let start = c .before .before .before .before .before in (start .pre .0, (c .before .before .quicker .ensures (c .before .if1 .taken), start .pre .1))
 
 write-narrow-requires : tie.Need-write-narrow-requires
 write-narrow-requires c κs = search needs
 
-quicker-requires : tie.Need-quicker-requires
-quicker-requires c κs = search needs
+quicker-requires-2 : tie.Need-quicker-requires-2
+quicker-requires-2 c κs = search needs
 
 write-requires-2 : tie.Need-write-requires-2
 write-requires-2 c κs = search needs
@@ -49,10 +49,10 @@ pub write-table-spec : {M : Type 1} → statement M
 write-table-spec =
     tie.close
     (tie.spec
-    all-bare-requires
+    quicker-requires
     write-requires
     write-narrow-requires
-    quicker-requires
+    quicker-requires-2
     write-requires-2
     write-wide-requires
     same-length
