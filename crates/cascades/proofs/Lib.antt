@@ -15,3 +15,4 @@ pub mod Faults
 pub mod Exchanges
 pub mod Gathers
 pub mod Lone
+pub mod Lanes

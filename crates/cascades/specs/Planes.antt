@@ -97,6 +97,10 @@ pub record Turned (p : Places) (b b′ : List ℕ) : Type 0 where
 abbrev pub digitOn : ℕ → ℕ → ℕ → ℕ
 digitOn one two i = digit 2 i one + 2 * digit 2 i two
 
+-- four numbers of 16 bits in one
+unfoldable pub lanes : (ℕ → ℕ) → ℕ
+lanes f = f 0 + 65536 * f 1 + 4294967296 * f 2 + 281474976710656 * f 3
+
 -- the pattern that bit i says of the words w, those for 1 and 2 of each line
 unfoldable pub entryOf : List ℕ → ℕ → ℕ
 entryOf w i =

@@ -3,7 +3,8 @@ ghost use mathlib.Core.Path.{_≡_};
 ghost use Prim.Native.Nat.{_+_, _*_, _≤_, _<_, min};
 ghost use lib.ListN.{length};
 ghost use Rattle.ranges.specs.Ranges.{span};
-ghost use Rattle.cascades.specs.Planes.{digitOn, entryOf, wordsOf, blockEntry, planesEntry};
+ghost use Rattle.digits.specs.Digits.{digit};
+ghost use Rattle.cascades.specs.Planes.{digitOn, lanes, entryOf, wordsOf, blockEntry, planesEntry};
 use crate::planes;
 
 // The digit that a bit of a line's planes for 1 and 2 says.
@@ -28,12 +29,50 @@ fn entry(words: [u64; 12], i: u64) -> u16
     (x0 + 3 * (x1 + 3 * (x2 + 3 * (x3 + 3 * (x4 + 3 * x5))))) as u16
 }
 
-// Up to 64 entries.
+// Four bits, each the lowest of a number of 16 bits.
+fn spread(x: u64) -> u64
+    requires { ⌜ x < 16 ⌝ }
+    ensures { λ r. ⌜ (r ≡ lanes (λ j. digit 2 j x)) × (r ≤ 281479271743489) ⌝ }
+{
+    x * 0x2000_4000_8001 & 0x0001_0001_0001_0001
+}
+
+// The digits that four bits of a line's planes for 1 and 2 say.
+fn digits_on(one: u64, two: u64, i: u64) -> u64
+    requires { ⌜ i < 61 ⌝ }
+    ensures { λ r. ⌜ (r ≡ lanes (λ j. digitOn one two (i + j))) × (r ≤ 844437815230467) ⌝ }
+{
+    spread((one >> i) % 16) + 2 * spread((two >> i) % 16)
+}
+
+// Four patterns at once.
+fn four(words: [u64; 12], i: u64) -> u64
+    requires { ⌜ i < 61 ⌝ }
+    ensures { λ r. ⌜ r ≡ lanes (λ j. entryOf words (i + j)) ⌝ }
+{
+    let x0 = digits_on(words[0], words[1], i);
+    let x1 = digits_on(words[2], words[3], i);
+    let x2 = digits_on(words[4], words[5], i);
+    let x3 = digits_on(words[6], words[7], i);
+    let x4 = digits_on(words[8], words[9], i);
+    let x5 = digits_on(words[10], words[11], i);
+    x0 + 3 * (x1 + 3 * (x2 + 3 * (x3 + 3 * (x4 + 3 * x5))))
+}
+
+// Up to 64 entries, four at once and then the rest.
 fn write_word(words: [u64; 12], table: &mut [u16])
     requires { ⌜ length (now table) ≤ 64 ⌝ }
     ensures { λ _. ⌜ now (table .exit) ≡ span (entryOf words) 0 (length (now (table .entry))) ⌝ }
 {
     let mut i: usize = 0;
+    while i + 3 < table.len() {
+        let x = four(words, i as u64);
+        table[i] = (x % 65536) as u16;
+        table[i + 1] = (x / 65536 % 65536) as u16;
+        table[i + 2] = (x / 4294967296 % 65536) as u16;
+        table[i + 3] = (x / 281474976710656) as u16;
+        i = i + 4;
+    }
     while i < table.len() {
         table[i] = entry(words, i as u64);
         i = i + 1;

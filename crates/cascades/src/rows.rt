@@ -203,7 +203,7 @@ fn step_of(m: usize) -> usize
 }
 
 // Is this way the quicker for a cascade on six lines? A gate of planes takes as long as a row or two here, and to write the table that planes
-// show as long as 180 rows.
+// show as long as 120 rows.
 pub fn quicker(cascade: &[u8], m: usize) -> bool
     requires { ⌜ (length (now cascade) ≡ 8 * m) × (m ≤ 8000) ⌝ }
 {
@@ -215,5 +215,5 @@ pub fn quicker(cascade: &[u8], m: usize) -> bool
         rows = rows + rows_of((controls & controls / 2 & 0x0101_0101_0101) % 255);
         i = i + step;
     }
-    rows <= (180 + m + m / 4) / step
+    rows <= (120 + m + m / 4) / step
 }
