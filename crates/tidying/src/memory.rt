@@ -188,7 +188,7 @@ fn stride_end(x: usize, p: usize) -> usize
     if p < x + 16 { p } else { x + 16 }
 }
 
-// 1 where row r is clear up to p, else 0.
+// 1 where the row with the number n is clear up to p, else 0.
 fn count_row(n: u16, p: usize) -> usize
     ensures { λ r. ⌜ (r ≤ 1) × (r ≡ 0 → n % 16384 ≡ p → ⊥) ⌝ }
 {

@@ -16,7 +16,7 @@ use gates::Gate;
 // Of a stretch of which nothing is known.
 const ALL: u64 = 18446744073709551615;
 
-// For each line the types that upset the gate's control there.
+// For each line the types that upset the gate's control there: a control of 0, 1 or 2 comes to 11, 14 or 13, and none to 0.
 fn shun(w: u64) -> u64
     requires { ⌜ Written w ⌝ }
     ensures { λ r. ⌜ (r ≡ shunned (gateOf w)) × (r < 256 ^ 6) ⌝ }
@@ -26,7 +26,7 @@ fn shun(w: u64) -> u64
         - 0x010101010101
 }
 
-// The byte of a view on the gate's target.
+// The byte of a view on the gate's target: the types that it cannot pass there, and its own 16 times.
 fn own_part(o: u64) -> u64
     ensures { λ r. ⌜ (r ≡ ownPart o) × (r < 256) ⌝ }
 {
@@ -40,7 +40,7 @@ fn own_part(o: u64) -> u64
     }
 }
 
-// The byte that a view must not meet there.
+// The byte that a view must not meet there: its own type, and the others 16 times.
 fn other_part(o: u64) -> u64
     ensures { λ r. ⌜ (r ≡ otherPart o) × (r < 256) ⌝ }
 {
@@ -186,7 +186,8 @@ pub fn meets_none(marks: &[u64], s: usize, sets: u64, kind: u64) -> bool
     kind & marks[2 * s + 1] == 0
 }
 
-// Where row i, which is clear up to place j, is clear up to by whole stretches from there on. A short walk is not worth a look at them.
+// Row i is clear up to a place; answers up to where it is clear once whole stretches from there on are passed. They are not looked at on a short walk, and
+// the row's record is read here, so that nothing is made ready for rows that walk no further.
 pub fn pass_stretches(b: &[u8], marks: &mut [u64], m: usize, i: usize, from: usize) -> usize
     requires { ⌜ Holds (now b) (gatesIn (now b) m) × Marked (gatesIn (now b) m) (now marks) × (m ≤ 8000) ⌝ }
     requires { ⌜ (isGap (gate (gatesIn (now b) m) i) ≡ false) × Clear (gatesIn (now b) m) i from ⌝ }
