@@ -76,6 +76,7 @@ pub fn synthesize(lines: u8, table: &[u16], room: &mut [u8]) -> Counted
     ensures { λ r. ⌜ countedAs r ≡ synthesizeAnswer lines (now (table .entry)) (length (now (room .entry))) ⌝ }
     ensures { λ _. ⌜ now (room .exit) ≡ synthesizeRoom lines (now (table .entry)) (now (room .entry)) ⌝ }
 {
+    // One line returns at once: its answer would take longer to pass through the others' than to find.
     if lines == 1 {
         return synthesize_one_line(table, room);
     }

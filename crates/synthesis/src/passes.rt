@@ -72,6 +72,21 @@ fn put_words(words: &[u64], room: &mut [u8])
     }
 }
 
+// Whether every entry stands right already.
+fn is_identity(table: &[u16]) -> bool
+    requires { ⌜ length (now table) ≤ 729 ⌝ }
+    ensures { λ r. ⌜ (r ≡ true → (p : ℕ) → p < length (now (table .entry)) → getD (now (table .entry)) p 0 ≡ p) ⌝ }
+{
+    let mut i: usize = 0;
+    while i < table.len() {
+        if table[i] != i as u16 {
+            return false;
+        }
+        i += 1;
+    }
+    true
+}
+
 // The words of the given table's gates, found in lent arrays of its length.
 fn find_in(
     n: usize,
@@ -115,21 +130,6 @@ fn write_by(
     let start = find_in(n, given, inverse, table, spread, words);
     put_words(&words[start..], room);
     words.len() - start
-}
-
-// Whether every entry stands right already.
-fn is_identity(table: &[u16]) -> bool
-    requires { ⌜ length (now table) ≤ 729 ⌝ }
-    ensures { λ r. ⌜ (r ≡ true → (p : ℕ) → p < length (now (table .entry)) → getD (now (table .entry)) p 0 ≡ p) ⌝ }
-{
-    let mut i: usize = 0;
-    while i < table.len() {
-        if table[i] != i as u16 {
-            return false;
-        }
-        i += 1;
-    }
-    true
 }
 
 // The same for two lines or more, with arrays of the size that the lines need: to clear larger ones would take longer than the work. The identity needs none.
