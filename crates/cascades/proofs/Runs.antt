@@ -1,15 +1,19 @@
 -- A table filled in runs: `filling-run` is one turn of a loop that fills the entries from p up to e at once, and `word-run` and `block-run` say what a
 -- run's entries are. From `entry-shown`, that a block's entry for an input is the pattern that it shows, follows `shown-table`. Assumes nothing.
 use mathlib.Core.Path.{_≡_, refl, sym, ap, _∙_}
-use mathlib.Core.Bool.{cond}
+use mathlib.Core.Bool.{Bool, cond}
 use mathlib.Core.List.{List, [], _∷_, _++_, append-nil, append-assoc}
+use mathlib.Core.Logic.{⊎-elim}
 use Prim.Native.Nat.{ℕ, zero, suc, _+_, _-_, _*_, _/_, _%_, _^_, _≤_, _<_, min}
-use native.Mathlib.Nat.{zero-add, add-zero, add-suc, zero-mod, add-mod-right, lt-of-lt-of-le}
+use native.Mathlib.Nat.{zero-add, add-zero, add-suc, zero-mod, add-mod-right, lt-of-lt-of-le, pow-le-pow-right}
 use native.Mathlib.Omega.{arith}
+use lib.Dec.{ltb}
 use lib.ListN.{length, getD, take, drop, length-take, length-drop}
 use lib.Seq.{take-at, drop-at, drop-drop}
+use borrow.Author.Tests.{lt-ltb, le-ltb}
 use Rattle.ranges.specs.Ranges.{sum, span}
 use Rattle.ranges.specs.Lists.{Each}
+use Rattle.ranges.proofs.Counts.{lt-or-le}
 use Rattle.ranges.proofs.Fills.{filled, Filling, filling-start, filling-length, filling-end}
 use Rattle.ranges.proofs.Spans.{length-span, span-none, span-snoc, span-ext}
 use Rattle.digits.specs.Digits.{digit, pack}
@@ -20,7 +24,7 @@ use Rattle.digits.proofs.Three.{three}
 use Rattle.gates.specs.declared.Gate.{Gate}
 use Rattle.gates.specs.Gates.{holds, IsGate}
 use Rattle.cascades.specs.Cascades.{ran, tableOf}
-use Rattle.cascades.specs.Planes.{on, part, Shows, AllShow, digitOn, entryOf, wordsOf, blockEntry, planesEntry}
+use Rattle.cascades.specs.Planes.{on, part, needed, Shows, AllShow, digitOn, entryOf, wordsOf, blockEntry, planesEntry}
 use Rattle.cascades.proofs.Cascades.{run-lt}
 use Rattle.cascades.proofs.Bits.{bit-value}
 
@@ -109,7 +113,7 @@ six-digits x lt =
     pack-digits 3 6 x (omega arith) lt in
     omega arith
 
-module _ (b : List ℕ) (f : ℕ → ℕ) (shows : Shows b f) (q : ℕ) (lq : q < 243) where
+module _ (small : Bool) (b : List ℕ) (f : ℕ → ℕ) (shows : Shows small b f) (q : ℕ) (lq : q < 243) (used : q < needed small) where
   line-shown : (k : ℕ) → k < 6 → digitOn (getD b (16 * k + 4 + q / 64) 0) (getD b (16 * k + 8 + q / 64) 0) (q % 64) ≡ digit 3 k (f q)
   line-shown k lk =
       let e : 64 * (q / 64) + q % 64 ≡ q = omega arith in
@@ -126,8 +130,20 @@ module _ (b : List ℕ) (f : ℕ → ℕ) (shows : Shows b f) (q : ℕ) (lq : q 
       rw (line-shown 0 (omega arith), line-shown 1 (omega arith), line-shown 2 (omega arith), line-shown 3 (omega arith), line-shown 4 (omega arith), line-shown 5 (omega arith))
       (six-digits (f q) small)
 
+few-most : (n : ℕ) → n < 5 → 3 ^ n ≤ 81
+few-most n lt = pow-le-pow-right {n = 3} (omega arith) {i = n} {j = 4} (omega arith)
+
+-- every input of a board is needed
+input-needed : (n p : ℕ) → p < 3 ^ n → p % 243 < needed (ltb n 5)
+unfolding needed
+input-needed n p lt =
+    ⊎-elim
+    (λ few. rw (lt-ltb n 5 few) (omega (arith, few-most n few)))
+    (λ many. rw (le-ltb n 5 many) (omega arith))
+    (lt-or-le n 5)
+
 -- planes that show what gates make of each input are the gates' table
-pub shown-table : (n blocks : ℕ) (ws : List ℕ) (gs : List Gate) → n ≤ 6 → Each (IsGate n) gs → 3 ^ n ≤ 243 * blocks → AllShow blocks ws (ran gs)
+pub shown-table : (n blocks : ℕ) (ws : List ℕ) (gs : List Gate) → n ≤ 6 → Each (IsGate n) gs → 3 ^ n ≤ 243 * blocks → AllShow (ltb n 5) blocks ws (ran gs)
     → span (planesEntry ws) 0 (3 ^ n) ≡ tableOf n gs
 unfolding planesEntry tableOf
 shown-table n blocks ws gs six each room shows =
@@ -136,4 +152,4 @@ shown-table n blocks ws gs six each room shows =
     let lp : p < 3 ^ n = omega arith in
     let whole : 243 * (p / 243) + p % 243 ≡ p = omega arith in
     let small : ran gs (243 * (p / 243) + p % 243) < 729 = rw whole (lt-of-lt-of-le (run-lt n gs p each lp) (patterns-most n six)) in
-    entry-shown (part (p / 243) ws) (λ q. ran gs (243 * (p / 243) + q)) (shows (p / 243) (omega arith)) (p % 243) (omega arith) small ∙ ap (ran gs) whole)
+    entry-shown (ltb n 5) (part (p / 243) ws) (λ q. ran gs (243 * (p / 243) + q)) (shows (p / 243) (omega arith)) (p % 243) (omega arith) (input-needed n p lp) small ∙ ap (ran gs) whole)

@@ -20,7 +20,7 @@ use Rattle.digits.specs.Digits.{digit, pack}
 use Rattle.digits.proofs.Digits.{low-div, digit-zero, digit-suc}
 use Rattle.digits.proofs.Packs.{digit-pack}
 use Rattle.gates.specs.Gates.{holds}
-use Rattle.cascades.specs.Planes.{on, Shows}
+use Rattle.cascades.specs.Planes.{on, needed, Shows}
 use Rattle.cascades.proofs.Bits.{on-all}
 
 -- ---- digits of q + r ^ m d, where q has m digits
@@ -143,5 +143,6 @@ module _ (b : List ℕ) (d : ℕ) (lb : length b ≡ 96) (ld : d < 3) where
       shown-at = ⊎-elim lower (λ le. sixth (omega arith) (ℕ-discrete c d)) (lt-or-le k 5)
 
   -- the two stores that lay a block
-  pub laid : Shows (sets (sets b 0 firstWords) (80 + 4 * d) fullWords) (λ q. 243 * d + q)
+  pub laid : Shows false (sets (sets b 0 firstWords) (80 + 4 * d) fullWords) (λ q. 243 * d + q)
+  unfolding needed
   laid = record { shown = λ k c j i lk lc lj li lq. shown-at k c j i lk lc lj li lq }

@@ -1,7 +1,7 @@
 -- Bit planes: for each line and each control value, which inputs that control is content with, 64 inputs to a word.
 use Prim.Native.Nat.{ℕ, zero, suc, _+_, _*_, _/_, _%_, _≤_, _<_}
 use mathlib.Core.Path.{_≡_}
-use mathlib.Core.Bool.{Bool}
+use mathlib.Core.Bool.{Bool, true, false}
 use mathlib.Core.List.{List, [], _∷_}
 use lib.Bits.{bitAnd, bitOr, bitXor}
 use lib.Dec.{eqb}
@@ -21,13 +21,18 @@ on i w = eqb (digit 2 i w) 1
 abbrev pub part : ℕ → List ℕ → List ℕ
 part s ws = take 96 (drop (96 * s) ws)
 
--- for each input q of the block b, its planes show the pattern f q
-pub record Shows (b : List ℕ) (f : ℕ → ℕ) : Type 0 where
-  pub shown : (k c j i : ℕ) → k < 6 → c < 4 → j < 4 → i < 64 → 64 * j + i < 243 → on i (getD b (16 * k + 4 * c + j) 0) ≡ holds c (digit 3 k (f (64 * j + i)))
+-- how many of a block's inputs are needed, on a small board of up to four lines and on others
+unfoldable pub needed : Bool → ℕ
+needed true = 81
+needed false = 243
+
+-- for each input q of the block b that is needed, its planes show the pattern f q
+pub record Shows (small : Bool) (b : List ℕ) (f : ℕ → ℕ) : Type 0 where
+  pub shown : (k c j i : ℕ) → k < 6 → c < 4 → j < 4 → i < 64 → 64 * j + i < needed small → on i (getD b (16 * k + 4 * c + j) 0) ≡ holds c (digit 3 k (f (64 * j + i)))
 
 -- n blocks show the patterns f p, where input q of block s is 243 s + q
-abbrev pub AllShow : ℕ → List ℕ → (ℕ → ℕ) → Type 0
-AllShow n ws f = (s : ℕ) → s < n → Shows (part s ws) (λ q. f (243 * s + q))
+abbrev pub AllShow : Bool → ℕ → List ℕ → (ℕ → ℕ) → Type 0
+AllShow small n ws f = (s : ℕ) → s < n → Shows small (part s ws) (λ q. f (243 * s + q))
 
 -- ---- a gate on a block
 
@@ -66,28 +71,33 @@ chosenWord fires moved old = bitXor (bitAnd (bitXor moved old) fires) old
 unfoldable pub neitherWord : ℕ → ℕ → ℕ
 neitherWord a b = bitXor (bitOr a b) 18446744073709551615
 
--- word j of the inputs on which the gate fires
-unfoldable pub firesWord : Places → List ℕ → ℕ → ℕ
-firesWord p b j =
+-- word j of the inputs on which the controls of the first four lines are content
+unfoldable pub fewWord : Places → List ℕ → ℕ → ℕ
+fewWord p b j =
     bitAnd
-    (bitAnd (bitAnd (bitAnd (bitAnd (getD b (p .line0 + j) 0) (getD b (p .line1 + j) 0)) (getD b (p .line2 + j) 0)) (getD b (p .line3 + j) 0)) (getD b (p .line4 + j) 0))
-    (getD b (p .line5 + j) 0)
+    (bitAnd (getD b (p .line0 + j) 0) (getD b (p .line1 + j) 0))
+    (bitAnd (getD b (p .line2 + j) 0) (getD b (p .line3 + j) 0))
+
+-- word j of the inputs on which the gate fires; a small board has no other controls
+unfoldable pub firesWord : Bool → Places → List ℕ → ℕ → ℕ
+firesWord true p b j = fewWord p b j
+firesWord false p b j = bitAnd (bitAnd (fewWord p b j) (getD b (p .line4 + j) 0)) (getD b (p .line5 + j) 0)
 
 -- word j of what the target's planes for 0, 1 and 2 become
-unfoldable pub zeroWord : Places → List ℕ → ℕ → ℕ
-zeroWord p b j = chosenWord (firesWord p b j) (getD b (p .zero + j) 0) (getD b (p .target + j) 0)
+unfoldable pub zeroWord : Bool → Places → List ℕ → ℕ → ℕ
+zeroWord small p b j = chosenWord (firesWord small p b j) (getD b (p .zero + j) 0) (getD b (p .target + j) 0)
 
-unfoldable pub oneWord : Places → List ℕ → ℕ → ℕ
-oneWord p b j = chosenWord (firesWord p b j) (getD b (p .one + j) 0) (getD b (p .target + 4 + j) 0)
+unfoldable pub oneWord : Bool → Places → List ℕ → ℕ → ℕ
+oneWord small p b j = chosenWord (firesWord small p b j) (getD b (p .one + j) 0) (getD b (p .target + 4 + j) 0)
 
-unfoldable pub newWord : Places → List ℕ → ℕ → ℕ → ℕ
-newWord p b zero j = zeroWord p b j
-newWord p b (suc zero) j = oneWord p b j
-newWord p b (suc (suc c)) j = neitherWord (zeroWord p b j) (oneWord p b j)
+unfoldable pub newWord : Bool → Places → List ℕ → ℕ → ℕ → ℕ
+newWord small p b zero j = zeroWord small p b j
+newWord small p b (suc zero) j = oneWord small p b j
+newWord small p b (suc (suc c)) j = neitherWord (zeroWord small p b j) (oneWord small p b j)
 
--- b′ is the block b after the gate: these planes are new, and all else stays
-pub record Turned (p : Places) (b b′ : List ℕ) : Type 0 where
-  pub new : (c j : ℕ) → c < 3 → j < 4 → getD b′ (p .target + (4 * c + j)) 0 ≡ newWord p b c j
+-- b′ is the block b after the gate: these planes are new in every word that is needed, and all but them stays
+pub record Turned (small : Bool) (p : Places) (b b′ : List ℕ) : Type 0 where
+  pub new : (c j : ℕ) → c < 3 → 64 * j < needed small → getD b′ (p .target + (4 * c + j)) 0 ≡ newWord small p b c j
   pub below : (x : ℕ) → x < p .target → getD b′ x 0 ≡ getD b x 0
   pub above : (x : ℕ) → p .target + 12 ≤ x → getD b′ x 0 ≡ getD b x 0
 

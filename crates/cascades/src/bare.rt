@@ -1,5 +1,5 @@
-// The whole table of a cascade with no controls, as every cascade on one line is: each line goes by itself, so that it is enough to follow the
-// three digits of each. What line k holds where digit x came in stands at 3 k + x.
+// The whole table of a cascade with no controls: each line goes by itself, so that it is enough to follow the three digits of each.
+// What line k holds where digit x came in stands at 3 k + x.
 ghost use mathlib.Core.Path.{_≡_};
 ghost use mathlib.Core.Bool.{true};
 ghost use Prim.Native.Nat.{ℕ, _≤_, _<_, _^_};
@@ -25,12 +25,13 @@ fn all_bare(lines: u8, cascade: &[u8], m: usize) -> bool
     true
 }
 
-// Is this way open and the quicker for a table of so many entries? An entry takes longer here than where planes show it, a gate less.
+// Is this way open and the quicker for a table of so many entries? An entry takes longer here than where planes show it, a gate less, but
+// not on the few planes of up to four lines.
 pub fn quicker(lines: u8, cascade: &[u8], m: usize, entries: usize) -> bool
     requires { ⌜ Whole lines (now cascade) m ⌝ }
     ensures { λ r. ⌜ (r ≡ true → AllBare (now (cascade .entry)) m) ⌝ }
 {
-    if m / 2 < entries {
+    if lines < 5 || m / 2 < entries {
         return false;
     }
     all_bare(lines, cascade, m)

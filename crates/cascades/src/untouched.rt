@@ -1,5 +1,6 @@
 // The planes of the inputs as they come in.
 ghost use mathlib.Core.Path.{_≡_};
+ghost use mathlib.Core.Bool.{false};
 ghost use Prim.Native.Nat.{_*_, _+_, _≤_, _<_};
 ghost use lib.ListN.{length};
 ghost use Rattle.cascades.specs.Planes.{Shows, AllShow};
@@ -109,7 +110,7 @@ const FIRST: [u64; 96] = [
 // The block of so many: its inputs have that digit on the sixth line.
 fn lay_block(block: &mut [u64], number: usize)
     requires { ⌜ (length (now block) ≡ 96) × (number < 3) ⌝ }
-    ensures { λ _. ⌜ Shows (now (block .exit)) (λ q. 243 * number + q) ⌝ }
+    ensures { λ _. ⌜ Shows false (now (block .exit)) (λ q. 243 * number + q) ⌝ }
 {
     let first = FIRST;
     planes::put(block, 0, &first);
@@ -120,7 +121,7 @@ fn lay_block(block: &mut [u64], number: usize)
 // All blocks: every input is still itself.
 pub fn lay(planes: &mut [u64], blocks: usize)
     requires { ⌜ (length (now planes) ≡ 96 * blocks) × (blocks ≤ 3) ⌝ }
-    ensures { λ _. ⌜ AllShow blocks (now (planes .exit)) (λ p. p) ⌝ }
+    ensures { λ _. ⌜ AllShow false blocks (now (planes .exit)) (λ p. p) ⌝ }
 {
     let mut number: usize = 0;
     while number < blocks {

@@ -1,5 +1,6 @@
 -- `cascades::planes::act` meets its contract: block after block is changed. Assumes nothing.
 use mathlib.Core.Path.{_≡_, sym, _∙_}
+use mathlib.Core.Bool.{Bool}
 use mathlib.Core.List.{List}
 use Prim.Native.Nat.{ℕ, _-_, _≤_}
 use native.Mathlib.Omega.{arith}
@@ -11,17 +12,17 @@ use Rattle.cascades.proofs.Parts.{Walking, walking-start, walking-next,
 use Rattle.cascades.proofs.planes.act.Statement.{statement}
 use Rattle.cascades.proofs.planes.act.Tie as tie
 
-record Going (planes₀ : List ℕ) (blocks : ℕ) (p : Places) (planes new : List ℕ) (s : ℕ) : Type 0 where
+record Going (planes₀ : List ℕ) (blocks : ℕ) (p : Places) (small : Bool) (planes new : List ℕ) (s : ℕ) : Type 0 where
   inside : InBlock p
   most : blocks ≤ 3
   long : length new ≡ 12
-  walked : Walking (λ t. Turned p) blocks planes₀ planes s
+  walked : Walking (λ t. Turned small p) blocks planes₀ planes s
 
 abbrev Inv-loop : tie.InvT-loop
-Inv-loop planes₀ blocks places new₀ number₀ planes new number = Going planes₀ blocks places planes new number
+Inv-loop planes₀ blocks places small new₀ number₀ planes new number = Going planes₀ blocks places small planes new number
 
 abbrev μ-loop : tie.MeasureT-loop
-μ-loop planes₀ blocks places new₀ number₀ planes new number = blocks - number
+μ-loop planes₀ blocks places small new₀ number₀ planes new number = blocks - number
 
 loop-holds : tie.Need-loop-holds Inv-loop μ-loop
 loop-holds c =
@@ -65,7 +66,7 @@ loop-again c =
     let d = c .before .before .before .before .before .before .before in
     let a = c .before .before .before .before .act-on-block in
     let i = d .before .loop .inv in
-    let new-length : length (a .last .1 .1 .0) ≡ 12 = omega (arith, i .long) in
+    let new-length : length (a .last .1 .1 .1 .0) ≡ 12 = omega (arith, i .long) in
     record {
       inside = i .inside;
       most = i .most;

@@ -1,8 +1,10 @@
 -- `cascades::planes::run_with` meets its contract: after i gates the planes show what the first i gates make of each input. Assumes nothing.
 use mathlib.Core.Path.{_≡_, sym, _∙_}
+use mathlib.Core.Bool.{Bool}
 use mathlib.Core.List.{List}
 use Prim.Native.Nat.{ℕ, _-_, _*_, _/_, _≤_}
 use native.Mathlib.Omega.{arith}
+use lib.Dec.{ltb}
 use lib.ListN.{length}
 use borrow.Author.Needs.{needs}
 use Rattle.ranges.specs.Ranges.{span}
@@ -15,19 +17,20 @@ use Rattle.cascades.proofs.Turns.{in-block, all-start, all-next}
 use Rattle.cascades.proofs.planes.run_with.Statement.{statement}
 use Rattle.cascades.proofs.planes.run_with.Tie as tie
 
-record Going (n : ℕ) (b : List ℕ) (m blocks : ℕ) (planes new : List ℕ) (i : ℕ) : Type 0 where
+record Going (n : ℕ) (b : List ℕ) (m blocks : ℕ) (small : Bool) (planes new : List ℕ) (i : ℕ) : Type 0 where
   whole : Whole n b m
   within : i ≤ m
   long : length planes ≡ 96 * blocks
   most : blocks ≤ 3
   new-long : length new ≡ 12
-  shows : AllShow blocks planes (ran (span (gateOf b) 0 i))
+  few : small ≡ ltb n 5
+  shows : AllShow small blocks planes (ran (span (gateOf b) 0 i))
 
 abbrev Inv-loop : tie.InvT-loop
-Inv-loop lines cascade m planes₀ blocks new₀ i₀ planes new i = Going lines cascade m blocks planes new i
+Inv-loop lines cascade m planes₀ blocks small new₀ i₀ planes new i = Going lines cascade m blocks small planes new i
 
 abbrev μ-loop : tie.MeasureT-loop
-μ-loop lines cascade m planes₀ blocks new₀ i₀ planes new i = m - i
+μ-loop lines cascade m planes₀ blocks small new₀ i₀ planes new i = m - i
 
 loop-holds : tie.Need-loop-holds Inv-loop μ-loop
 loop-holds c =
@@ -38,7 +41,8 @@ loop-holds c =
       long = start .pre .1 .0 .0;
       most = start .pre .1 .0 .1;
       new-long = start .pre .1 .0 .2;
-      shows = all-start _ _ _ (start .pre .1 .1);
+      few = start .pre .1 .1 .0;
+      shows = all-start _ _ _ _ (start .pre .1 .1 .1);
     }
 
 mul-places-of : tie.Need-mul-places-of Inv-loop μ-loop
@@ -65,7 +69,7 @@ loop-again c =
     let d = c .before .before .before .before .before .before .before .before in
     let i = d .before .loop .inv in
     let a = c .before .before .before .before .act in
-    let new-long : length (a .last .1 .1 .1 .0) ≡ 12 = omega (arith, i .new-long) in
+    let new-long : length (a .last .1 .1 .1 .1 .0) ≡ 12 = omega (arith, i .new-long) in
     let long : length (a .last .0) ≡ 96 * d .before .before .before .before .before .args .blocks = omega (arith, i .long) in
     record {
       whole = i .whole;
@@ -73,8 +77,9 @@ loop-again c =
       long = long;
       most = i .most;
       new-long = new-long;
+      few = i .few;
       shows =
-          all-next _ _ _ _ _ _ _ (lines-are _ (i .whole .lines) .1) (i .whole .each _ (d .loop-test .taken)) (c .before .before .before .before .before .before .places-of .ensures) (a .ensures) (i .shows);
+          all-next _ _ _ _ _ _ _ _ (i .few) (lines-are _ (i .whole .lines) .1) (i .whole .each _ (d .loop-test .taken)) (c .before .before .before .before .before .before .places-of .ensures) (a .ensures) (i .shows);
     }
 
 same-length : tie.Need-same-length Inv-loop μ-loop

@@ -1,5 +1,6 @@
 -- `cascades::planes::turn` meets its contract: each turn of the loop makes one word of each of the three planes. Assumes nothing.
 use mathlib.Core.Path.{_≡_, sym, _∙_}
+use mathlib.Core.Bool.{false}
 use Prim.Native.Nat.{_+_, _-_}
 use native.Mathlib.Omega.{arith}
 use lib.ListN.{length, set, length-set}
@@ -16,21 +17,21 @@ abbrev μ-loop : tie.MeasureT-loop
 μ-loop block places new₀ j₀ new j = 4 - j
 
 -- what a turn has made
-module _ (c : tie.After-chosen2 Inv-loop μ-loop) where
-  zero-made : c .before .before .before .before .chosen .result ≡ zeroWord (c .before .before .before .before .before .before .before .before .before .before .before .before .args .places) (c .before .before .before .before .before .before .before .before .before .before .before .before .args .block .now) (c .before .before .before .before .before .before .before .before .before .loop .j)
+module _ (c : tie.After-one-at Inv-loop μ-loop) where
+  zero-made : c .before .zero-at .result ≡ zeroWord false (c .before .before .before .before .before .before .before .args .places) (c .before .before .before .before .before .before .before .args .block .now) (c .before .before .before .before .loop .j)
   unfolding zeroWord
-  zero-made = c .before .before .before .before .chosen .ensures ∙ rw (c .before .before .before .before .before .before .before .fires-at .ensures, c .before .before .before .before .before .before .word .ensures, c .before .before .before .before .before .word2 .ensures)
+  zero-made = c .before .zero-at .ensures ∙ rw (c .before .before .fires-at .ensures)
 
-  one-made : c .chosen2 .result ≡ oneWord (c .before .before .before .before .before .before .before .before .before .before .before .before .args .places) (c .before .before .before .before .before .before .before .before .before .before .before .before .args .block .now) (c .before .before .before .before .before .before .before .before .before .loop .j)
+  one-made : c .one-at .result ≡ oneWord false (c .before .before .before .before .before .before .before .args .places) (c .before .before .before .before .before .before .before .args .block .now) (c .before .before .before .before .loop .j)
   unfolding oneWord
-  one-made = c .chosen2 .ensures ∙ rw (c .before .before .before .before .before .before .before .fires-at .ensures, c .before .before .before .word3 .ensures, c .before .word4 .ensures)
+  one-made = c .one-at .ensures ∙ rw (c .before .before .fires-at .ensures)
 
   -- stores keep the length
-  long-one : length (set (c .before .before .before .before .before .before .before .before .before .loop .new) (c .before .before .before .before .before .before .before .before .before .loop .j) (c .before .before .before .before .chosen .result)) ≡ 12
-  long-one = simp length-set (c .before .before .before .before .before .before .before .before .before .loop .inv .long)
+  long-one : length (set (c .before .before .before .before .loop .new) (c .before .before .before .before .loop .j) (c .before .zero-at .result)) ≡ 12
+  long-one = simp length-set (c .before .before .before .before .loop .inv .long)
 
-  long-two : length (set (set (c .before .before .before .before .before .before .before .before .before .loop .new) (c .before .before .before .before .before .before .before .before .before .loop .j) (c .before .before .before .before .chosen .result)) (4 + c .before .before .before .before .before .before .before .before .before .loop .j) (c .chosen2 .result)) ≡ 12
-  long-two = simp length-set (c .before .before .before .before .before .before .before .before .before .loop .inv .long)
+  long-two : length (set (set (c .before .before .before .before .loop .new) (c .before .before .before .before .loop .j) (c .before .zero-at .result)) (4 + c .before .before .before .before .loop .j) (c .one-at .result)) ≡ 12
+  long-two = simp length-set (c .before .before .before .before .loop .inv .long)
 
 loop-holds : tie.Need-loop-holds Inv-loop μ-loop
 loop-holds c = turning-start _ _ _ (c .before .before .pre .1 .1)
@@ -38,26 +39,11 @@ loop-holds c = turning-start _ _ _ (c .before .before .pre .1 .1)
 fires-at-requires : tie.Need-fires-at-requires Inv-loop μ-loop
 fires-at-requires c κs = search needs
 
-word-requires : tie.Need-word-requires Inv-loop μ-loop
-word-requires c κs = search needs
+zero-at-requires : tie.Need-zero-at-requires Inv-loop μ-loop
+zero-at-requires c κs = search needs
 
-word-requires-2 : tie.Need-word-requires-2 Inv-loop μ-loop
-word-requires-2 c κs = search needs
-
-chosen-requires : tie.Need-chosen-requires Inv-loop μ-loop
-chosen-requires c κs = search needs
-
-word-requires-3 : tie.Need-word-requires-3 Inv-loop μ-loop
-word-requires-3 c κs = search needs
-
-add-word : tie.Need-add-word Inv-loop μ-loop
-add-word c = search needs
-
-word-requires-4 : tie.Need-word-requires-4 Inv-loop μ-loop
-word-requires-4 c κs = search needs
-
-chosen-requires-2 : tie.Need-chosen-requires-2 Inv-loop μ-loop
-chosen-requires-2 c κs = search needs
+one-at-requires : tie.Need-one-at-requires Inv-loop μ-loop
+one-at-requires c κs = search needs
 
 mul-new : tie.Need-mul-new Inv-loop μ-loop
 mul-new c = search needs
@@ -94,7 +80,7 @@ loop-less c = search needs
 
 loop-again : tie.Need-loop-again Inv-loop μ-loop
 loop-again c =
-    let d = c .before .before .before .before .before .before .before .before .before in
+    let d = c .before .before .before .before in
     turning-next _ _ _ _ (d .before .loop .inv) (d .loop-test .taken) _ _ _ (zero-made (c .before)) (one-made (c .before)) (c .neither .ensures)
 
 same-length : tie.Need-same-length Inv-loop μ-loop
@@ -114,13 +100,8 @@ turn-spec =
     μ-loop
     loop-holds
     fires-at-requires
-    word-requires
-    word-requires-2
-    chosen-requires
-    word-requires-3
-    add-word
-    word-requires-4
-    chosen-requires-2
+    zero-at-requires
+    one-at-requires
     mul-new
     slice-write-new
     add-new

@@ -1,5 +1,6 @@
 -- `cascades::untouched::lay` meets its contract: block after block is laid. Assumes nothing.
 use mathlib.Core.Path.{sym, _∙_}
+use mathlib.Core.Bool.{false}
 use mathlib.Core.List.{List}
 use Prim.Native.Nat.{ℕ, _+_, _-_, _*_, _≤_}
 use native.Mathlib.Omega.{arith}
@@ -11,7 +12,7 @@ use Rattle.cascades.proofs.untouched.lay.Tie as tie
 
 -- a block that is laid
 abbrev Laid : ℕ → List ℕ → List ℕ → Type 0
-Laid t old new = Shows new (λ q. 243 * t + q)
+Laid t old new = Shows false new (λ q. 243 * t + q)
 
 record Going (planes₀ : List ℕ) (blocks : ℕ) (planes : List ℕ) (s : ℕ) : Type 0 where
   most : blocks ≤ 3
