@@ -5,14 +5,5 @@ pub mod Answers
 pub mod Stored
 pub mod Sounds
 pub mod Readings
-pub mod Bits
-pub mod Parts
-pub mod Starts
-pub mod Runs
-pub mod Turns
 pub mod Tallies
 pub mod Faults
-pub mod Exchanges
-pub mod Gathers
-pub mod Lone
-pub mod Lanes

@@ -7,11 +7,10 @@ use lib.ListN.{length}
 use Rattle.ranges.specs.Ranges.{first}
 use Rattle.card.specs.Card.{Answer, Answer.accepted, Answer.refused, refusing, onLines, after, laid}
 use Rattle.gates.specs.Records.{isRecord}
-use Rattle.cascades.specs.Cascades.{records, gatesOf, bytesOf, ran, tableOf, undoing}
+use Rattle.cascades.specs.Cascades.{records, gatesOf, bytesOf, ran, undoing}
 use Rattle.cascades.specs.Prices.{cascadePrice}
 use Rattle.cascades.specs.declared.Counted.{Counted}
 use Rattle.cascades.specs.declared.Ran.{Ran}
-use Rattle.cascades.specs.declared.Tabulated.{Tabulated}
 use Rattle.cascades.specs.declared.Priced.{Priced}
 
 -- ---- the document's number and values for each case of an answer
@@ -23,10 +22,6 @@ countedAs (Counted.Refused k p) = refused k p
 abbrev pub ranAs : Ran → Answer
 ranAs (Ran.Pattern p) = accepted (p ∷ [])
 ranAs (Ran.Refused k p) = refused k p
-
-abbrev pub tabulatedAs : Tabulated → Answer
-tabulatedAs (Tabulated.Entries m) = accepted (m ∷ [])
-tabulatedAs (Tabulated.Refused k p) = refused k p
 
 abbrev pub pricedAs : Priced → Answer
 pricedAs (Priced.Cost c) = accepted (c ∷ [])
@@ -59,13 +54,6 @@ checkAnswer n b = onLines n (sound n b (accepted (records b ∷ [])))
 -- 1 6 7 8
 unfoldable pub runAnswer : ℕ → List ℕ → ℕ → Answer
 runAnswer n b p = onLines n (sound n b (refusing (leb (3 ^ n) p) 8 0 (accepted (ran (gatesOf b) p ∷ []))))
-
--- 1 6 7 5: a room of so many entries
-unfoldable pub tabulateAnswer : ℕ → List ℕ → ℕ → Answer
-tabulateAnswer n b room = onLines n (sound n b (refusing (ltb room (3 ^ n)) 5 (3 ^ n) (accepted (3 ^ n ∷ []))))
-
-unfoldable pub tabulateRoom : ℕ → List ℕ → List ℕ → List ℕ
-tabulateRoom n b room = after (tabulateAnswer n b (length room)) (laid (tableOf n (gatesOf b)) room) room
 
 -- 1 6 7 5: a room of so many bytes
 unfoldable pub invertAnswer : ℕ → List ℕ → ℕ → Answer

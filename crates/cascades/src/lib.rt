@@ -1,4 +1,4 @@
-// Cascades of gate records: checked, run on a pattern, written out as a table, inverted, and priced.
+// Cascades of gate records: checked, run on a pattern, inverted, and priced.
 ghost use mathlib.Core.Path.{_≡_};
 ghost use Prim.Native.Nat.{_≤_, _<_, _^_};
 ghost use mathlib.Core.Bool.{true};
@@ -9,18 +9,12 @@ ghost use Rattle.gates.specs.Words.{asked};
 ghost use Rattle.cascades.specs.Cascades.{gatesOf, ran};
 ghost use Rattle.ranges.specs.Ranges.{span};
 ghost use Rattle.cascades.specs.Prices.{countedPrice, tallied, cascadePrice};
-ghost use Rattle.cascades.specs.Answers.{countedAs, ranAs, tabulatedAs, pricedAs, sound, checkAnswer, runAnswer, tabulateAnswer, tabulateRoom, invertAnswer, invertRoom, priceAnswer};
+ghost use Rattle.cascades.specs.Answers.{countedAs, ranAs, pricedAs, sound, checkAnswer, runAnswer, invertAnswer, invertRoom, priceAnswer};
 
-mod bare;
-mod entries;
 pub mod lengths;
-mod planes;
 mod prices;
-mod rows;
 pub mod scan;
 mod undo;
-mod untouched;
-pub mod whole;
 
 use gates::Record;
 
@@ -33,12 +27,6 @@ pub enum Counted {
 // The pattern after a cascade.
 pub enum Ran {
     Pattern(u16),
-    Refused { number: u8, place: usize },
-}
-
-// So many entries of a table, written.
-pub enum Tabulated {
-    Entries(usize),
     Refused { number: u8, place: usize },
 }
 
@@ -136,27 +124,6 @@ pub fn run(lines: u8, cascade: &[u8], pattern: u16) -> Ran
             place: 0,
         },
         Counted::Refused { number, place } => Ran::Refused { number, place },
-    }
-}
-
-// The table that the cascade computes, into a room for entries: refusals 1, 6, 7, 5.
-pub fn tabulate(lines: u8, cascade: &[u8], room: &mut [u16]) -> Tabulated
-    ensures { λ r. ⌜ tabulatedAs r ≡ tabulateAnswer lines (now (cascade .entry)) (length (now (room .entry))) ⌝ }
-    ensures { λ r. ⌜ now (room .exit) ≡ tabulateRoom lines (now (cascade .entry)) (now (room .entry)) ⌝ }
-{
-    match check_cascade(lines, cascade) {
-        Counted::Refused { number, place } => Tabulated::Refused { number, place },
-        Counted::Gates(m) => {
-            let size = digits::power(lines as usize) as usize;
-            if room.len() < size {
-                return Tabulated::Refused {
-                    number: 5,
-                    place: size,
-                };
-            }
-            whole::write_table(lines, cascade, m, &mut room[..size]);
-            Tabulated::Entries(size)
-        }
     }
 }
 

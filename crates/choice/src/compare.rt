@@ -30,8 +30,8 @@ fn difference_in(lines: u8, first: &[u8], second: &[u8], one: &mut [u16], two: &
     requires { ⌜ (length (now one) ≡ 3 ^ lines) × (length (now two) ≡ 3 ^ lines) ⌝ }
     ensures { λ r. ⌜ r ≡ firstDifference lines (gatesOf (now (first .entry))) (gatesOf (now (second .entry))) ⌝ }
 {
-    cascades::whole::write_table(lines, first, first.len() / 8, one);
-    cascades::whole::write_table(lines, second, second.len() / 8, two);
+    tabulating::whole::write_table(lines, first, first.len() / 8, one);
+    tabulating::whole::write_table(lines, second, second.len() / 8, two);
     first_unlike(one, two)
 }
 

@@ -12,7 +12,8 @@ use Rattle.tables.specs.Tables.{tabled, checkTableAnswer}
 use Rattle.gates.specs.Records.{isRecord, gateAt}
 use Rattle.cascades.specs.Cascades.{records, gatesOf, ran}
 use Rattle.cascades.specs.Prices.{cascadePrice}
-use Rattle.cascades.specs.Answers.{sound, checkAnswer, runAnswer, tabulateAnswer, tabulateRoom, invertAnswer, invertRoom, priceAnswer}
+use Rattle.cascades.specs.Answers.{sound, checkAnswer, runAnswer, invertAnswer, invertRoom, priceAnswer}
+use Rattle.tabulating.specs.Tabulating.{tabulateAnswer, tabulateRoom}
 use Rattle.synthesis.specs.Synthesis.{bound, synthesized, synthesizeAnswer, synthesizeRoom}
 use Rattle.tidying.specs.Tidying.{tidied, tidyAnswer, tidyBuffer}
 use Rattle.choice.specs.Choice.{secondWins, chooseAnswer}

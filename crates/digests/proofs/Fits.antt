@@ -14,9 +14,10 @@ use Rattle.tables.specs.Permutations.{Permutation}
 use Rattle.tables.specs.Tables.{tabled}
 use Rattle.tables.proofs.Accepts.{Refuses, tabled-is, tabled-permutation}
 use Rattle.cascades.specs.Cascades.{records, gatesOf}
-use Rattle.cascades.specs.Answers.{sound, tabulateAnswer, invertAnswer}
+use Rattle.cascades.specs.Answers.{sound, invertAnswer}
 use Rattle.cascades.proofs.Cascades.{gates-count, whole-cascade}
 use Rattle.cascades.proofs.Sounds.{sound-whole}
+use Rattle.tabulating.specs.Tabulating.{tabulateAnswer}
 use Rattle.synthesis.specs.Synthesis.{synthesized, bound, synthesizeAnswer}
 use Rattle.synthesis.proofs.Synthesis.{synthesized-bound}
 use Rattle.tidying.specs.Tidying.{tidied, tidyAnswer}

@@ -5,7 +5,7 @@ use crate::sums::Sums;
 use crate::sums::plus;
 use cascades::Counted;
 use cascades::Priced;
-use cascades::Tabulated;
+use tabulating::Tabulated;
 use tidying::Tidied;
 
 fn cost(lines: u8, value: u8, cascade: &[u8]) -> u64 {
@@ -19,7 +19,7 @@ fn cost(lines: u8, value: u8, cascade: &[u8]) -> u64 {
 }
 
 fn digest_table(digest: u32, lines: u8, cascade: &[u8], entries: &mut [u16]) -> u32 {
-    match cascades::tabulate(lines, cascade, entries) {
+    match tabulating::tabulate(lines, cascade, entries) {
         Tabulated::Entries(size) => fingerprints::digest_entries(digest, &entries[..size]),
         Tabulated::Refused {
             number: _,

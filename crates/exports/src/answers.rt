@@ -4,7 +4,8 @@ ghost use mathlib.Core.List.{_∷_, []};
 ghost use Prim.Native.Nat.{_<_};
 ghost use Rattle.card.specs.Card.{Answer.accepted, Answer.refused};
 ghost use Rattle.tables.specs.Answers.{checkedAs};
-ghost use Rattle.cascades.specs.Answers.{countedAs, ranAs, tabulatedAs, pricedAs};
+ghost use Rattle.cascades.specs.Answers.{countedAs, ranAs, pricedAs};
+ghost use Rattle.tabulating.specs.Tabulating.{tabulatedAs};
 ghost use Rattle.tidying.specs.Answers.{tidiedAs};
 ghost use Rattle.choice.specs.Choice.{choiceAs};
 ghost use Rattle.files.specs.Files.{writtenAs, readAs};
@@ -15,7 +16,6 @@ use super::Numbers;
 use cascades::Counted;
 use cascades::Priced;
 use cascades::Ran;
-use cascades::Tabulated;
 use choice::Choice;
 use files::Extent;
 use files::Given;
@@ -23,6 +23,7 @@ use files::ReadBack;
 use files::Written;
 use listings::Listed;
 use tables::Checked;
+use tabulating::Tabulated;
 use tidying::Tidied;
 
 // An accepted call with its values.

@@ -3,7 +3,8 @@ ghost use mathlib.Core.Path.{_≡_};
 ghost use lib.ListN.{length};
 ghost use Rattle.tables.specs.Tables.{checkTableAnswer};
 ghost use Rattle.synthesis.specs.Synthesis.{synthesizeAnswer, synthesizeRoom};
-ghost use Rattle.cascades.specs.Answers.{checkAnswer, runAnswer, tabulateAnswer, tabulateRoom, invertAnswer, invertRoom, priceAnswer};
+ghost use Rattle.cascades.specs.Answers.{checkAnswer, runAnswer, invertAnswer, invertRoom, priceAnswer};
+ghost use Rattle.tabulating.specs.Tabulating.{tabulateAnswer, tabulateRoom};
 ghost use Rattle.tidying.specs.Tidying.{tidyAnswer, tidyBuffer};
 ghost use Rattle.choice.specs.Choice.{chooseAnswer};
 ghost use Rattle.files.specs.Files.{writeAnswer, writeRoom, readAnswer, readRecords, readNote};
@@ -58,7 +59,7 @@ pub extern "C" fn tiles_tabulate(lines: u8, cascade: &[u8], room: &mut [u16]) ->
     ensures { λ r. ⌜ r ≡ numbers (tabulateAnswer lines (now (cascade .entry)) (length (now (room .entry)))) ⌝ }
     ensures { λ r. ⌜ now (room .exit) ≡ tabulateRoom lines (now (cascade .entry)) (now (room .entry)) ⌝ }
 {
-    answers::tabulated(cascades::tabulate(lines, cascade, room))
+    answers::tabulated(tabulating::tabulate(lines, cascade, room))
 }
 
 #[no_mangle]

@@ -3,7 +3,7 @@ use mathlib.Core.Path.{sym, ap, _∙_}
 use Prim.Native.Nat.{_≤_}
 use lib.ListN.{length}
 use lib.Seq.{length-take-le}
-use Rattle.cascades.specs.Answers.{tabulatedAs}
+use Rattle.tabulating.specs.Tabulating.{tabulatedAs}
 use Rattle.digests.proofs.Fits.{table-fits}
 use borrow.Author.Needs.{needs}
 use Rattle.digests.proofs.adding.digest_table.Statement.{statement}

@@ -1,6 +1,6 @@
 -- `exports::answers::tabulated` meets its contract: the numbers of each case are those that `tabulatedAs` names. Assumes nothing.
 use mathlib.Core.Path.{ap, sym, _∙_}
-use Rattle.cascades.specs.Answers.{tabulatedAs}
+use Rattle.tabulating.specs.Tabulating.{tabulatedAs}
 use Rattle.exports.specs.Numbers.{numbers}
 use borrow.Author.Needs.{needs}
 use Rattle.exports.proofs.answers.tabulated.Statement.{statement}

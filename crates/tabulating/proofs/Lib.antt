@@ -1,0 +1,9 @@
+pub mod Bits
+pub mod Parts
+pub mod Starts
+pub mod Runs
+pub mod Turns
+pub mod Exchanges
+pub mod Gathers
+pub mod Lone
+pub mod Lanes

@@ -1,0 +1,4 @@
+pub mod Tabulating
+pub mod Planes
+pub mod Rows
+pub mod Bare
