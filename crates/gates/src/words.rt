@@ -55,7 +55,7 @@ pub fn store(w: u64, out: &mut [u8], at: usize)
 }
 
 // The weight of byte k.
-fn weight(k: u64) -> u64
+pub fn weight(k: u64) -> u64
     requires { ⌜ k ≤ 6 ⌝ }
     ensures { λ r. ⌜ r ≡ 256 ^ k ⌝ }
 {
@@ -213,7 +213,7 @@ fn fires_in(w: u64, d: u64) -> bool
 }
 
 // Byte k.
-fn byte_of(d: u64, k: u64) -> u64
+pub fn byte_of(d: u64, k: u64) -> u64
     requires { ⌜ k ≤ 6 ⌝ }
     ensures { λ r. ⌜ r ≡ byte k d ⌝ }
 {

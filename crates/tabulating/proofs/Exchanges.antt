@@ -10,6 +10,7 @@ use native.Mathlib.Decide.{ℕ-discrete}
 use native.Mathlib.Omega.{arith}
 use lib.Dec.{eqb, leb, ltb}
 use lib.ListN.{length, getD, set}
+use lib.Pow.{pow-add}
 use lib.Seq.{getD-set-same, getD-set-other, ext-getD}
 use borrow.Author.Tests.{eqb-true, ltb-true, eq-eqb, ne-eqb, le-leb, lt-ltb, le-ltb}
 use Rattle.ranges.specs.Ranges.{every, span}
@@ -388,10 +389,10 @@ pub record Parting (n w k r : ℕ) : Type 0 where
   pub free : Free w k
   pub place : r ≡ 256 ^ (2 + k)
 
-pub parting : (n w k r : ℕ) → n ≤ 6 → GateWord n w → k ≤ n → (k ≡ n → ⊥) → (k < n → Free w k) → r ≡ 256 ^ (2 + k) → Parting n w k r
-parting n w k r six ok le ne free e =
+pub parting : (n w k x : ℕ) → n ≤ 6 → GateWord n w → k ≤ n → (k ≡ n → ⊥) → (k < n → Free w k) → x ≡ 256 ^ k → Parting n w k (65536 * x)
+parting n w k x six ok le ne free e =
     let lt : k < n = omega arith in
-    record { six = six; ok = ok; within = lt; free = free lt; place = e }
+    record { six = six; ok = ok; within = lt; free = free lt; place = rw e (sym (pow-add 256 2 k)) }
 
 module _ (n w k r : ℕ) (is : Parting n w k r) where
   pub part-fits : 3 * r ≤ w

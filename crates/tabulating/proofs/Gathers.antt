@@ -1,5 +1,5 @@
--- A gate's word as numbers: the weight of a byte, the pattern of its controls gathered from six bytes at once (`based` and `gathering`), and that marks
--- on all lines leave none free (`marks-fill`). Assumes nothing.
+-- A gate's word as numbers: the pattern of its controls gathered from six bytes at once (`based` and `gathering`), and that marks on all lines leave
+-- none free (`marks-fill`). Assumes nothing.
 use mathlib.Core.Path.{_≡_, refl, sym, ap, _∙_}
 use mathlib.Core.Bool.{Bool, true, false, cond}
 use mathlib.Core.Logic.{_⊎_}
@@ -15,19 +15,11 @@ use Rattle.ranges.proofs.Counts.{here-or-later}
 use Rattle.digits.specs.Digits.{digit, put, pack}
 use Rattle.digits.proofs.Digits.{low-div, low-mod, digit-high, digit-put-other, digits-equal, put-value}
 use Rattle.digits.proofs.Packs.{pack-suc, pack-digits, pack-ext, pack-lt, digit-pack}
-use Rattle.digits.proofs.Sizes.{patterns-some}
 use Rattle.digits.proofs.Bits.{digit-and}
 use Rattle.gates.specs.Words.{byte, Held, controlMarks}
 use Rattle.gates.proofs.Bytes.{byte-high}
 use Rattle.gates.proofs.Marks.{control-mark}
 use Rattle.tabulating.specs.Rows.{GateWord, Filled, baseOf}
-
-pub place-is : (k : ℕ) → k ≤ 7 → (1 * 2 ^ (8 * k)) % 18446744073709551616 ≡ 256 ^ k
-unfolding every
-place-is k le = eqb-true _ _ (every-below (λ k. eqb ((1 * 2 ^ (8 * k)) % 18446744073709551616) (256 ^ k)) 8 refl k (omega arith))
-
-pub place-some : (k : ℕ) → k ≤ 7 → 1 ≤ 256 ^ k
-place-some k le = patterns-some 256 k (omega arith)
 
 -- ---- marks on all lines
 

@@ -11,14 +11,6 @@ ghost use Rattle.cascades.specs.Cascades.{Whole, gatesOf, tableOf};
 ghost use Rattle.tabulating.specs.Rows.{GateWord, Free, Filled, baseOf, exchanged, order, After};
 use gates::words;
 
-// The weight of byte k.
-fn place(k: u64) -> u64
-    requires { ⌜ k ≤ 7 ⌝ }
-    ensures { λ r. ⌜ r ≡ 256 ^ k ⌝ }
-{
-    1 << (8 * k)
-}
-
 // The weight of a line: the six stand in a row, a byte each.
 fn weight(line: u64) -> usize
     requires { ⌜ line < 6 ⌝ }
@@ -93,7 +85,7 @@ fn is_free(lines: u8, w: u64, k: u64) -> bool
     if k == w / 256 % 256 {
         return false;
     }
-    w / place(2 + k) % 256 == 3
+    words::byte_of(w / 65536, k) == 3
 }
 
 // The first such line, or the number of lines.
@@ -116,7 +108,7 @@ fn filled(lines: u8, w: u64, marks: u64) -> bool
     requires { ⌜ (lines ≤ 6) × GateWord lines w × (marks ≡ controlMarks w) ⌝ }
     ensures { λ r. ⌜ (r ≡ true → Filled lines w) ⌝ }
 {
-    marks + place(w / 256 % 256) == 0x0101_0101_0101 % place(lines as u64)
+    marks + words::weight(w / 256 % 256) == 0x0101_0101_0101 % words::weight(lines as u64)
 }
 
 // A gate that leaves a line free is three, with a control for each digit there.
@@ -130,7 +122,7 @@ fn turn_parts(lines: u8, w: u64, table: &mut [u16])
         turn_row(lines, w, words::mark_controls(w), table);
         return;
     }
-    let one = place(2 + k);
+    let one = 65536 * words::weight(k);
     turn_parts(lines, w - 3 * one, table);
     turn_parts(lines, w - 2 * one, table);
     turn_parts(lines, w - one, table);

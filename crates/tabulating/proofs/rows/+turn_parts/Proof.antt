@@ -1,299 +1,153 @@
 -- `tabulating::rows::turn_parts` meets its contract: a gate that leaves a line free is three, and the number that falls is the gate's word. Assumes nothing.
 use mathlib.Core.Path.{_∙_}
+use Prim.Native.Nat.{ℕ, _*_, _<_}
 use native.Mathlib.Omega.{arith}
 use borrow.Author.Needs.{needs}
-use Rattle.tabulating.proofs.Exchanges.{word-low, parting, part-fits, part-some, good-zeroth, good-first, good-second, after-three}
-use Prim.Native.Nat.{ℕ, _<_}
 use borrow.Fn.Kinds.{In}
 use borrow.Fn.PlainCycle.{Measures, is, falls, and}
-use Rattle.tabulating.proofs.rows.turn_parts.Reads as turn-parts
-use Rattle.tabulating.proofs.rows.turn_parts.Kinds as turn-parts-kinds
-use Rattle.tabulating.proofs.rows.+turn_parts.Lts-turn_parts as turn-parts-lts
-use Rattle.tabulating.proofs.rows.free_line.Reads as free-line-reads
-use Rattle.tabulating.proofs.rows.place.Reads as place-reads
-use Rattle.tabulating.proofs.rows.turn_row.Reads as turn-row-reads
-use Rattle.gates.proofs.words.mark_controls.Reads as mark-controls-reads
+use Rattle.gates.proofs.Bytes.{weight-most}
+use Rattle.gates.proofs.words.mark_controls.Reads as mark-controls
+use Rattle.gates.proofs.words.weight.Reads as weight
+use Rattle.tabulating.proofs.Exchanges.{word-low, Parting, parting, part-fits, part-some, good-zeroth, good-first, good-second, after-three}
+use Rattle.tabulating.proofs.rows.free_line.Reads as free-line
+use Rattle.tabulating.proofs.rows.turn_row.Reads as turn-row
+use Rattle.tabulating.proofs.rows.turn_parts.Reads as own
+use Rattle.tabulating.proofs.rows.turn_parts.Kinds as kinds
+use Rattle.tabulating.proofs.rows.+turn_parts.Lts-turn_parts as lts
 use Rattle.tabulating.proofs.rows.+turn_parts.{statement}
 use Rattle.tabulating.proofs.rows.+turn_parts.Tie.{close}
 
-abbrev μ-turn-parts : Measures 1 turn-parts-kinds.ps ℕ
-μ-turn-parts κs a = a .1 .0
+abbrev μ : Measures 1 kinds.ps ℕ
+μ κs a = a .1 .0
 
-abbrev turn-parts-at : ℕ → In 1 turn-parts-kinds.ps
-turn-parts-at t =
-    and 1 turn-parts-kinds.ps (is 1 turn-parts-kinds.ps μ-turn-parts t) turn-parts.Pre
+-- what holds at the start of a call whose measure is t, and what a call within it is asked
+abbrev at : ℕ → In 1 kinds.ps
+at t = and 1 kinds.ps (is 1 kinds.ps μ t) own.Pre
 
-abbrev turn-parts-below : ℕ → In 1 turn-parts-kinds.ps
-turn-parts-below t =
-    and 1 turn-parts-kinds.ps (falls 1 turn-parts-kinds.ps _<_ μ-turn-parts t) turn-parts.Pre
+abbrev below : ℕ → In 1 kinds.ps
+below t = and 1 kinds.ps (falls 1 kinds.ps _<_ μ t) own.Pre
 
-turn-parts-free-line-requires : (t : ℕ) → turn-parts-lts.Need-free-line-requires (
-  free-line-reads.Asked,
-  free-line-reads.Learnt,
-  mark-controls-reads.Asked,
-  mark-controls-reads.Learnt,
-  turn-row-reads.Asked,
-  turn-row-reads.Learnt,
-  place-reads.Asked,
-  place-reads.Learnt,
-  turn-parts-below t,
-  turn-parts.Post,
-) (turn-parts-at t) turn-parts.Post
-turn-parts-free-line-requires t c κs = search needs
+-- what each callee asks, and what is learnt of it
+abbrev callees : ℕ → lts.Claims
+callees t = (
+  free-line.Asked,
+  free-line.Learnt,
+  mark-controls.Asked,
+  mark-controls.Learnt,
+  turn-row.Asked,
+  turn-row.Learnt,
+  weight.Asked,
+  weight.Learnt,
+  below t,
+  own.Post,
+)
 
-turn-parts-mark-controls-requires : (t : ℕ) → turn-parts-lts.Need-mark-controls-requires (
-  free-line-reads.Asked,
-  free-line-reads.Learnt,
-  mark-controls-reads.Asked,
-  mark-controls-reads.Learnt,
-  turn-row-reads.Asked,
-  turn-row-reads.Learnt,
-  place-reads.Asked,
-  place-reads.Learnt,
-  turn-parts-below t,
-  turn-parts.Post,
-) (turn-parts-at t) turn-parts.Post
-turn-parts-mark-controls-requires t c κs = word-low _ _ (c .before .before .before .pre .1 .0 .1)
+module _ (t : ℕ) where
+  free-line-requires : lts.Need-free-line-requires (callees t) (at t) own.Post
+  free-line-requires c κs = search needs
 
-turn-parts-turn-row-requires : (t : ℕ) → turn-parts-lts.Need-turn-row-requires (
-  free-line-reads.Asked,
-  free-line-reads.Learnt,
-  mark-controls-reads.Asked,
-  mark-controls-reads.Learnt,
-  turn-row-reads.Asked,
-  turn-row-reads.Learnt,
-  place-reads.Asked,
-  place-reads.Learnt,
-  turn-parts-below t,
-  turn-parts.Post,
-) (turn-parts-at t) turn-parts.Post
-turn-parts-turn-row-requires t c κs = let s = c .before .before .before .before .before in let f = c .before .before .before .free-line in ((s .pre .1 .0 .0, s .pre .1 .0 .1, f .ensures .2 (c .before .before .if1 .taken), c .before .mark-controls .ensures), s .pre .1 .1)
+  mark-controls-requires : lts.Need-mark-controls-requires (callees t) (at t) own.Post
+  mark-controls-requires c κs = word-low _ _ (c .before .before .before .pre .1 .0 .1)
 
-turn-parts-same-length : (t : ℕ) → turn-parts-lts.Need-same-length (
-  free-line-reads.Asked,
-  free-line-reads.Learnt,
-  mark-controls-reads.Asked,
-  mark-controls-reads.Learnt,
-  turn-row-reads.Asked,
-  turn-row-reads.Learnt,
-  place-reads.Asked,
-  place-reads.Learnt,
-  turn-parts-below t,
-  turn-parts.Post,
-) (turn-parts-at t) turn-parts.Post
-turn-parts-same-length t c = search needs
+  turn-row-requires : lts.Need-turn-row-requires (callees t) (at t) own.Post
+  turn-row-requires c κs =
+      let start = c .before .before .before .before .before in
+      let line = c .before .before .before .free-line in
+      ((start .pre .1 .0 .0, start .pre .1 .0 .1, line .ensures .2 (c .before .before .if1 .taken), c .before .mark-controls .ensures), start .pre .1 .1)
 
-turn-parts-returns : (t : ℕ) → turn-parts-lts.Need-returns (
-  free-line-reads.Asked,
-  free-line-reads.Learnt,
-  mark-controls-reads.Asked,
-  mark-controls-reads.Learnt,
-  turn-row-reads.Asked,
-  turn-row-reads.Learnt,
-  place-reads.Asked,
-  place-reads.Learnt,
-  turn-parts-below t,
-  turn-parts.Post,
-) (turn-parts-at t) turn-parts.Post
-turn-parts-returns t c = c .before .before .turn-row .ensures
+  same-length : lts.Need-same-length (callees t) (at t) own.Post
+  same-length c = search needs
 
-turn-parts-add-place : (t : ℕ) → turn-parts-lts.Need-add-place (
-  free-line-reads.Asked,
-  free-line-reads.Learnt,
-  mark-controls-reads.Asked,
-  mark-controls-reads.Learnt,
-  turn-row-reads.Asked,
-  turn-row-reads.Learnt,
-  place-reads.Asked,
-  place-reads.Learnt,
-  turn-parts-below t,
-  turn-parts.Post,
-) (turn-parts-at t) turn-parts.Post
-turn-parts-add-place t c = search needs
+  returns : lts.Need-returns (callees t) (at t) own.Post
+  returns c = c .before .before .turn-row .ensures
 
-turn-parts-place-requires : (t : ℕ) → turn-parts-lts.Need-place-requires (
-  free-line-reads.Asked,
-  free-line-reads.Learnt,
-  mark-controls-reads.Asked,
-  mark-controls-reads.Learnt,
-  turn-row-reads.Asked,
-  turn-row-reads.Learnt,
-  place-reads.Asked,
-  place-reads.Learnt,
-  turn-parts-below t,
-  turn-parts.Post,
-) (turn-parts-at t) turn-parts.Post
-turn-parts-place-requires t c κs = omega (arith, c .before .before .before .pre .1 .0 .0, c .before .free-line .ensures .0, c .if1 .left)
+  weight-requires : lts.Need-weight-requires (callees t) (at t) own.Post
+  weight-requires c κs = omega (arith, c .before .before .before .pre .1 .0 .0, c .before .free-line .ensures .0, c .if1 .left)
 
-turn-parts-mul-turn-parts : (t : ℕ) → turn-parts-lts.Need-mul-turn-parts (
-  free-line-reads.Asked,
-  free-line-reads.Learnt,
-  mark-controls-reads.Asked,
-  mark-controls-reads.Learnt,
-  turn-row-reads.Asked,
-  turn-row-reads.Learnt,
-  place-reads.Asked,
-  place-reads.Learnt,
-  turn-parts-below t,
-  turn-parts.Post,
-) (turn-parts-at t) turn-parts.Post
-turn-parts-mul-turn-parts t c = let p = parting _ _ _ _ (c .before .before .before .before .pre .1 .0 .0) (c .before .before .before .before .pre .1 .0 .1) (c .before .before .free-line .ensures .0) (c .before .if1 .left) (c .before .before .free-line .ensures .1) (c .place .ensures) in record { fits = omega (arith, part-fits _ _ _ _ p) }
+  mul-one : lts.Need-mul-one (callees t) (at t) own.Post
+  mul-one c =
+      let on : c .before .before .free-line .result < 6 = omega (arith, c .before .before .before .before .pre .1 .0 .0, c .before .before .free-line .ensures .0, c .before .if1 .left) in
+      record { fits = omega (arith, c .weight .ensures, weight-most _ on) }
 
-turn-parts-sub-turn-parts : (t : ℕ) → turn-parts-lts.Need-sub-turn-parts (
-  free-line-reads.Asked,
-  free-line-reads.Learnt,
-  mark-controls-reads.Asked,
-  mark-controls-reads.Learnt,
-  turn-row-reads.Asked,
-  turn-row-reads.Learnt,
-  place-reads.Asked,
-  place-reads.Learnt,
-  turn-parts-below t,
-  turn-parts.Post,
-) (turn-parts-at t) turn-parts.Post
-turn-parts-sub-turn-parts t c = let p = parting _ _ _ _ (c .before .before .before .before .pre .1 .0 .0) (c .before .before .before .before .pre .1 .0 .1) (c .before .before .free-line .ensures .0) (c .before .if1 .left) (c .before .before .free-line .ensures .1) (c .place .ensures) in omega (arith, part-fits _ _ _ _ p)
+  -- a line is free, and its byte's weight known
+  module _ (c : lts.After-weight (callees t) (at t) own.Post) where
+    parts : Parting (c .before .before .before .before .args .lines) (c .before .before .before .before .args .w) (c .before .before .free-line .result) (65536 * c .weight .result)
+    parts =
+        let start = c .before .before .before .before in
+        let line = c .before .before .free-line in
+        parting _ _ _ _ (start .pre .1 .0 .0) (start .pre .1 .0 .1) (line .ensures .0) (c .before .if1 .left) (line .ensures .1) (c .weight .ensures)
 
-turn-parts-turn-parts-requires : (t : ℕ) → turn-parts-lts.Need-turn-parts-requires (
-  free-line-reads.Asked,
-  free-line-reads.Learnt,
-  mark-controls-reads.Asked,
-  mark-controls-reads.Learnt,
-  turn-row-reads.Asked,
-  turn-row-reads.Learnt,
-  place-reads.Asked,
-  place-reads.Learnt,
-  turn-parts-below t,
-  turn-parts.Post,
-) (turn-parts-at t) turn-parts.Post
-turn-parts-turn-parts-requires t c κs = let s = c .before .before .before .before .before in let p = parting _ _ _ _ (c .before .before .before .before .before .pre .1 .0 .0) (c .before .before .before .before .before .pre .1 .0 .1) (c .before .before .before .free-line .ensures .0) (c .before .before .if1 .left) (c .before .before .before .free-line .ensures .1) (c .before .place .ensures) in (omega (arith, s .pre .0, part-fits _ _ _ _ p, part-some _ _ _ _ p), ((s .pre .1 .0 .0, good-zeroth _ _ _ _ p), s .pre .1 .1))
+  mul-turn-parts : lts.Need-mul-turn-parts (callees t) (at t) own.Post
+  mul-turn-parts c = record { fits = omega (arith, part-fits _ _ _ _ (parts c)) }
 
-turn-parts-mul-turn-parts-2 : (t : ℕ) → turn-parts-lts.Need-mul-turn-parts-2 (
-  free-line-reads.Asked,
-  free-line-reads.Learnt,
-  mark-controls-reads.Asked,
-  mark-controls-reads.Learnt,
-  turn-row-reads.Asked,
-  turn-row-reads.Learnt,
-  place-reads.Asked,
-  place-reads.Learnt,
-  turn-parts-below t,
-  turn-parts.Post,
-) (turn-parts-at t) turn-parts.Post
-turn-parts-mul-turn-parts-2 t c = let p = parting _ _ _ _ (c .before .before .before .before .before .before .before .before .pre .1 .0 .0) (c .before .before .before .before .before .before .before .before .pre .1 .0 .1) (c .before .before .before .before .before .before .free-line .ensures .0) (c .before .before .before .before .before .if1 .left) (c .before .before .before .before .before .before .free-line .ensures .1) (c .before .before .before .before .place .ensures) in record { fits = omega (arith, part-fits _ _ _ _ p) }
+  sub-turn-parts : lts.Need-sub-turn-parts (callees t) (at t) own.Post
+  sub-turn-parts c = omega (arith, part-fits _ _ _ _ (parts c))
 
-turn-parts-sub-turn-parts-2 : (t : ℕ) → turn-parts-lts.Need-sub-turn-parts-2 (
-  free-line-reads.Asked,
-  free-line-reads.Learnt,
-  mark-controls-reads.Asked,
-  mark-controls-reads.Learnt,
-  turn-row-reads.Asked,
-  turn-row-reads.Learnt,
-  place-reads.Asked,
-  place-reads.Learnt,
-  turn-parts-below t,
-  turn-parts.Post,
-) (turn-parts-at t) turn-parts.Post
-turn-parts-sub-turn-parts-2 t c = let p = parting _ _ _ _ (c .before .before .before .before .before .before .before .before .pre .1 .0 .0) (c .before .before .before .before .before .before .before .before .pre .1 .0 .1) (c .before .before .before .before .before .before .free-line .ensures .0) (c .before .before .before .before .before .if1 .left) (c .before .before .before .before .before .before .free-line .ensures .1) (c .before .before .before .before .place .ensures) in omega (arith, part-fits _ _ _ _ p)
+  turn-parts-requires : lts.Need-turn-parts-requires (callees t) (at t) own.Post
+  turn-parts-requires c κs =
+      let start = c .before .before .before .before .before in
+      let p = parts (c .before) in
+      (omega (arith, start .pre .0, part-fits _ _ _ _ p, part-some _ _ _ _ p), ((start .pre .1 .0 .0, good-zeroth _ _ _ _ p), start .pre .1 .1))
 
-turn-parts-turn-parts-requires-2 : (t : ℕ) → turn-parts-lts.Need-turn-parts-requires-2 (
-  free-line-reads.Asked,
-  free-line-reads.Learnt,
-  mark-controls-reads.Asked,
-  mark-controls-reads.Learnt,
-  turn-row-reads.Asked,
-  turn-row-reads.Learnt,
-  place-reads.Asked,
-  place-reads.Learnt,
-  turn-parts-below t,
-  turn-parts.Post,
-) (turn-parts-at t) turn-parts.Post
-turn-parts-turn-parts-requires-2 t c κs = let s = c .before .before .before .before .before .before .before .before .before in let p = parting _ _ _ _ (c .before .before .before .before .before .before .before .before .before .pre .1 .0 .0) (c .before .before .before .before .before .before .before .before .before .pre .1 .0 .1) (c .before .before .before .before .before .before .before .free-line .ensures .0) (c .before .before .before .before .before .before .if1 .left) (c .before .before .before .before .before .before .before .free-line .ensures .1) (c .before .before .before .before .before .place .ensures) in (omega (arith, s .pre .0, part-fits _ _ _ _ p, part-some _ _ _ _ p), ((s .pre .1 .0 .0, good-first _ _ _ _ p), c .before .before .before .turn-parts .kept .1 .1 .0 ∙ s .pre .1 .1))
+  mul-turn-parts-2 : lts.Need-mul-turn-parts-2 (callees t) (at t) own.Post
+  mul-turn-parts-2 c = record { fits = omega (arith, part-fits _ _ _ _ (parts (c .before .before .before .before))) }
 
-turn-parts-sub-turn-parts-3 : (t : ℕ) → turn-parts-lts.Need-sub-turn-parts-3 (
-  free-line-reads.Asked,
-  free-line-reads.Learnt,
-  mark-controls-reads.Asked,
-  mark-controls-reads.Learnt,
-  turn-row-reads.Asked,
-  turn-row-reads.Learnt,
-  place-reads.Asked,
-  place-reads.Learnt,
-  turn-parts-below t,
-  turn-parts.Post,
-) (turn-parts-at t) turn-parts.Post
-turn-parts-sub-turn-parts-3 t c = let p = parting _ _ _ _ (c .before .before .before .before .before .before .before .before .before .before .before .before .pre .1 .0 .0) (c .before .before .before .before .before .before .before .before .before .before .before .before .pre .1 .0 .1) (c .before .before .before .before .before .before .before .before .before .before .free-line .ensures .0) (c .before .before .before .before .before .before .before .before .before .if1 .left) (c .before .before .before .before .before .before .before .before .before .before .free-line .ensures .1) (c .before .before .before .before .before .before .before .before .place .ensures) in omega (arith, part-fits _ _ _ _ p)
+  sub-turn-parts-2 : lts.Need-sub-turn-parts-2 (callees t) (at t) own.Post
+  sub-turn-parts-2 c = omega (arith, part-fits _ _ _ _ (parts (c .before .before .before .before)))
 
-turn-parts-turn-parts-requires-3 : (t : ℕ) → turn-parts-lts.Need-turn-parts-requires-3 (
-  free-line-reads.Asked,
-  free-line-reads.Learnt,
-  mark-controls-reads.Asked,
-  mark-controls-reads.Learnt,
-  turn-row-reads.Asked,
-  turn-row-reads.Learnt,
-  place-reads.Asked,
-  place-reads.Learnt,
-  turn-parts-below t,
-  turn-parts.Post,
-) (turn-parts-at t) turn-parts.Post
-turn-parts-turn-parts-requires-3 t c κs = let s = c .before .before .before .before .before .before .before .before .before .before .before .before .before in let p = parting _ _ _ _ (c .before .before .before .before .before .before .before .before .before .before .before .before .before .pre .1 .0 .0) (c .before .before .before .before .before .before .before .before .before .before .before .before .before .pre .1 .0 .1) (c .before .before .before .before .before .before .before .before .before .before .before .free-line .ensures .0) (c .before .before .before .before .before .before .before .before .before .before .if1 .left) (c .before .before .before .before .before .before .before .before .before .before .before .free-line .ensures .1) (c .before .before .before .before .before .before .before .before .before .place .ensures) in (omega (arith, s .pre .0, part-fits _ _ _ _ p, part-some _ _ _ _ p), ((s .pre .1 .0 .0, good-second _ _ _ _ p), c .before .before .before .turn-parts2 .kept .1 .1 .0 ∙ c .before .before .before .before .before .before .before .turn-parts .kept .1 .1 .0 ∙ s .pre .1 .1))
+  turn-parts-requires-2 : lts.Need-turn-parts-requires-2 (callees t) (at t) own.Post
+  turn-parts-requires-2 c κs =
+      let known = c .before .before .before .before .before in
+      let start = known .before .before .before .before in
+      let p = parts known in (
+        omega (arith, start .pre .0, part-fits _ _ _ _ p, part-some _ _ _ _ p),
+        ((start .pre .1 .0 .0, good-first _ _ _ _ p), c .before .before .before .turn-parts .kept .1 .1 .0 ∙ start .pre .1 .1),
+      )
 
-turn-parts-same-length-2 : (t : ℕ) → turn-parts-lts.Need-same-length-2 (
-  free-line-reads.Asked,
-  free-line-reads.Learnt,
-  mark-controls-reads.Asked,
-  mark-controls-reads.Learnt,
-  turn-row-reads.Asked,
-  turn-row-reads.Learnt,
-  place-reads.Asked,
-  place-reads.Learnt,
-  turn-parts-below t,
-  turn-parts.Post,
-) (turn-parts-at t) turn-parts.Post
-turn-parts-same-length-2 t c = search needs
+  sub-turn-parts-3 : lts.Need-sub-turn-parts-3 (callees t) (at t) own.Post
+  sub-turn-parts-3 c = omega (arith, part-fits _ _ _ _ (parts (c .before .before .before .before .before .before .before .before)))
 
-turn-parts-returns-2 : (t : ℕ) → turn-parts-lts.Need-returns-2 (
-  free-line-reads.Asked,
-  free-line-reads.Learnt,
-  mark-controls-reads.Asked,
-  mark-controls-reads.Learnt,
-  turn-row-reads.Asked,
-  turn-row-reads.Learnt,
-  place-reads.Asked,
-  place-reads.Learnt,
-  turn-parts-below t,
-  turn-parts.Post,
-) (turn-parts-at t) turn-parts.Post
-turn-parts-returns-2 t c = let p = parting _ _ _ _ (c .before .before .before .before .before .before .before .before .before .before .before .before .before .before .before .before .pre .1 .0 .0) (c .before .before .before .before .before .before .before .before .before .before .before .before .before .before .before .before .pre .1 .0 .1) (c .before .before .before .before .before .before .before .before .before .before .before .before .before .before .free-line .ensures .0) (c .before .before .before .before .before .before .before .before .before .before .before .before .before .if1 .left) (c .before .before .before .before .before .before .before .before .before .before .before .before .before .before .free-line .ensures .1) (c .before .before .before .before .before .before .before .before .before .before .before .before .place .ensures) in after-three _ _ _ _ p (c .before .before .before .before .before .before .before .before .before .before .before .before .before .before .before .before .args .table .now) (c .before .before .before .before .before .before .before .before .before .before .turn-parts .last .1 .1 .0) (c .before .before .before .before .before .before .turn-parts2 .last .1 .1 .0) (c .before .before .turn-parts3 .last .1 .1 .0) (c .before .before .before .before .before .before .before .before .before .before .turn-parts .ensures) (c .before .before .before .before .before .before .turn-parts2 .ensures) (c .before .before .turn-parts3 .ensures)
+  turn-parts-requires-3 : lts.Need-turn-parts-requires-3 (callees t) (at t) own.Post
+  turn-parts-requires-3 c κs =
+      let second = c .before .before .before in
+      let first = second .before .before .before .before in
+      let known = first .before .before in
+      let start = known .before .before .before .before in
+      let p = parts known in (
+        omega (arith, start .pre .0, part-fits _ _ _ _ p, part-some _ _ _ _ p),
+        ((start .pre .1 .0 .0, good-second _ _ _ _ p), second .turn-parts2 .kept .1 .1 .0 ∙ first .turn-parts .kept .1 .1 .0 ∙ start .pre .1 .1),
+      )
+
+  same-length-2 : lts.Need-same-length-2 (callees t) (at t) own.Post
+  same-length-2 c = search needs
+
+  returns-2 : lts.Need-returns-2 (callees t) (at t) own.Post
+  returns-2 c =
+      let third = c .before .before in
+      let second = third .before .before .before .before in
+      let first = second .before .before .before .before in
+      let known = first .before .before in
+      after-three _ _ _ _ (parts known) (known .before .before .before .before .args .table .now) (first .turn-parts .last .1 .1 .0) (second .turn-parts2 .last .1 .1 .0) (third .turn-parts3 .last .1 .1 .0) (first .turn-parts .ensures)
+      (second .turn-parts2 .ensures) (third .turn-parts3 .ensures)
 
 pub +turn-parts-spec : {M : Type 1} → statement M
-+turn-parts-spec = close μ-turn-parts λ t. turn-parts-lts.spec (
-  free-line-reads.Asked,
-  free-line-reads.Learnt,
-  mark-controls-reads.Asked,
-  mark-controls-reads.Learnt,
-  turn-row-reads.Asked,
-  turn-row-reads.Learnt,
-  place-reads.Asked,
-  place-reads.Learnt,
-  turn-parts-below t,
-  turn-parts.Post,
-)
-    (turn-parts-at t)
-    turn-parts.Post
-    (turn-parts-free-line-requires t)
-    (turn-parts-mark-controls-requires t)
-    (turn-parts-turn-row-requires t)
-    (turn-parts-same-length t)
-    (turn-parts-returns t)
-    (turn-parts-add-place t)
-    (turn-parts-place-requires t)
-    (turn-parts-mul-turn-parts t)
-    (turn-parts-sub-turn-parts t)
-    (turn-parts-turn-parts-requires t)
-    (turn-parts-mul-turn-parts-2 t)
-    (turn-parts-sub-turn-parts-2 t)
-    (turn-parts-turn-parts-requires-2 t)
-    (turn-parts-sub-turn-parts-3 t)
-    (turn-parts-turn-parts-requires-3 t)
-    (turn-parts-same-length-2 t)
-    (turn-parts-returns-2 t)
++turn-parts-spec =
+    close μ λ t.
+    lts.spec (callees t) (at t) own.Post
+    (free-line-requires t)
+    (mark-controls-requires t)
+    (turn-row-requires t)
+    (same-length t)
+    (returns t)
+    (weight-requires t)
+    (mul-one t)
+    (mul-turn-parts t)
+    (sub-turn-parts t)
+    (turn-parts-requires t)
+    (mul-turn-parts-2 t)
+    (sub-turn-parts-2 t)
+    (turn-parts-requires-2 t)
+    (sub-turn-parts-3 t)
+    (turn-parts-requires-3 t)
+    (same-length-2 t)
+    (returns-2 t)
