@@ -13,9 +13,9 @@ use Rattle.cascades.specs.Cascades.{gatesOf, bytesOf, tableOf}
 use Rattle.cascades.specs.Prices.{base, controlCount, others, gatePrice, cascadePrice}
 use Rattle.cascades.specs.Answers.{lengthOk, badRecord, firstBad, sound, priceAnswer}
 use Rattle.synthesis.specs.Synthesis.{exchanger, controlFor, gateFor, synthesized, bound, synthesizeAnswer}
-use Rattle.tidying.specs.Places.{isC, sameType, upsets, blocks, clashes, mayChange}
-use Rattle.tidying.specs.Rules.{sameLines, differAt, differences, lineOf, cancels, merges, reduces, fits, withControl, loosened, retuned}
-use Rattle.tidying.specs.Tidying.{isOpen, fitting, firstJ, firstI, without, ruled, untidy, step, tidiedIn, size, tidied, tidyAnswer, tidyBuffer}
+use Rattle.rules.specs.Places.{isC, sameType, upsets, blocks, clashes, mayChange}
+use Rattle.rules.specs.Rules.{sameLines, differAt, differences, lineOf, cancels, merges, reduces, fits, withControl, loosened, retuned}
+use Rattle.rules.specs.Tidying.{isOpen, fitting, firstJ, firstI, without, ruled, untidy, step, tidiedIn, size, tidied, tidyAnswer, tidyBuffer}
 use Rattle.cases.specs.Cases.{Case, cases}
 
 pub all-hold : map (λ (c : Case). c .given) cases ≡ map (λ (c : Case). c .printed) cases

@@ -6,7 +6,7 @@ use Rattle.cascades.specs.Cascades.{gatesOf, bytesOf, tableOf}
 use Rattle.cascades.specs.Answers.{priceAnswer}
 use Rattle.tables.specs.Tables.{checkTableAnswer}
 use Rattle.synthesis.specs.Synthesis.{synthesizeAnswer, synthesized}
-use Rattle.tidying.specs.Tidying.{tidyAnswer, tidyBuffer}
+use Rattle.rules.specs.Tidying.{tidyAnswer, tidyBuffer}
 
 -- what a call answers, or what it leaves in a lent buffer
 pub data Result : Type 0 where

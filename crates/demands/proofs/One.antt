@@ -15,7 +15,7 @@ use Rattle.cascades.specs.Prices.{cascadePrice}
 use Rattle.cascades.specs.Answers.{sound, checkAnswer, runAnswer, invertAnswer, invertRoom, priceAnswer}
 use Rattle.tabulating.specs.Tabulating.{tabulateAnswer, tabulateRoom}
 use Rattle.synthesis.specs.Synthesis.{bound, synthesized, synthesizeAnswer, synthesizeRoom}
-use Rattle.tidying.specs.Tidying.{tidied, tidyAnswer, tidyBuffer}
+use Rattle.rules.specs.Tidying.{tidied, tidyAnswer, tidyBuffer}
 use Rattle.choice.specs.Choice.{secondWins, chooseAnswer}
 use Rattle.files.specs.Files.{fileSize, linesIn, count, startOf, trailerAt, recordsOf, framed, writeAnswer, writeRoom, readAnswer, readRecords, readNote}
 use Rattle.files.specs.Readers.{openingAnswer, recordStands, asGiven, givenAs, givenAt, placeAfter, turnAt}

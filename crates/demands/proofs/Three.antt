@@ -16,10 +16,10 @@ use Rattle.cascades.proofs.Cascades.{whole-cascade}
 use Rattle.cascades.proofs.Answers.{check-whole}
 use Rattle.synthesis.specs.Synthesis.{bound, synthesized}
 use Rattle.synthesis.proofs.Synthesis.{synthesized-bound}
-use Rattle.tidying.specs.Rules.{fits}
-use Rattle.tidying.specs.Tidying.{gate, isOpen, Tidied, size, tidied, tidyAnswer}
-use Rattle.tidying.proofs.Endings.{Procedure}
-use Rattle.tidying.proofs.Promises.{tidied-keeps, tidied-count, tidied-cost, tidied-cascade, tidied-ends, tidied-steps, tidied-few}
+use Rattle.rules.specs.Rules.{fits}
+use Rattle.rules.specs.Tidying.{gate, isOpen, Tidied, size, tidied, tidyAnswer}
+use Rattle.rules.proofs.Endings.{Procedure}
+use Rattle.rules.proofs.Promises.{tidied-keeps, tidied-count, tidied-cost, tidied-cascade, tidied-ends, tidied-steps, tidied-few}
 use Rattle.demands.proofs.One.{check-cascade, tidy}
 
 -- at most n 3^n - (3^n - 1) / 2 gates

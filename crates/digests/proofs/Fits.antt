@@ -20,8 +20,8 @@ use Rattle.cascades.proofs.Sounds.{sound-whole}
 use Rattle.tabulating.specs.Tabulating.{tabulateAnswer}
 use Rattle.synthesis.specs.Synthesis.{synthesized, bound, synthesizeAnswer}
 use Rattle.synthesis.proofs.Synthesis.{synthesized-bound}
-use Rattle.tidying.specs.Tidying.{tidied, tidyAnswer}
-use Rattle.tidying.proofs.Promises.{tidied-count}
+use Rattle.rules.specs.Tidying.{tidied, tidyAnswer}
+use Rattle.rules.proofs.Promises.{tidied-count}
 
 -- an accepted answer is no refusal
 never : {A : Type 0} (k p : ℕ) (vs : List ℕ) → accepted vs ≡ refused k p → A

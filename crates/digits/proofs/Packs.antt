@@ -2,12 +2,12 @@
 -- They rest on `pack-front`, the lowest digit taken off. Assumes nothing.
 use mathlib.Core.Path.{_≡_, refl, sym, ap, _∙_}
 use Prim.Native.Nat.{ℕ, zero, suc, _+_, _*_, _^_, _<_}
-use native.Mathlib.Nat.{zero-add, add-zero, pow-zero, pow-succ', mul-add, mul-zero, mul-one, mul-left-comm}
+use native.Mathlib.Nat.{zero-add, add-zero, pow-zero, pow-succ', mul-add, mul-zero, mul-one, zero-mul, mul-left-comm}
 use native.Mathlib.Omega.{arith}
 use Rattle.ranges.specs.Ranges.{sum}
 use Rattle.ranges.proofs.Sums.{sum-snoc, sum-ext}
-use Rattle.digits.specs.Digits.{digit, pack}
-use Rattle.digits.proofs.Digits.{low-div, low-mod, low-lt, digit-zero, digit-suc, digit-lt, digits-equal}
+use Rattle.digits.specs.Digits.{digit, put, pack}
+use Rattle.digits.proofs.Digits.{low-div, low-mod, low-lt, digit-zero, digit-suc, digit-lt, digits-equal, put-value, digit-put-same, digit-put-other}
 
 pub pack-zero : (r : ℕ) (f : ℕ → ℕ) → pack r f 0 ≡ 0
 unfolding pack sum
@@ -43,3 +43,19 @@ pub pack-digits : (r m p : ℕ) → 0 < r → p < r ^ m → pack r (λ k. digit 
 pack-digits r m p pos lt =
     let small : (k : ℕ) → k < m → digit r k p < r = λ k l. digit-lt r k p pos in
     digits-equal r m (pack r (λ k. digit r k p) m) p pos (pack-lt r (λ k. digit r k p) m small) lt (λ k l. digit-pack r (λ k. digit r k p) m small k l)
+
+-- digits of which digit t is 0, with d added there
+module _ (r : ℕ) (f : ℕ → ℕ) (m : ℕ) (small : (k : ℕ) → k < m → f k < r) (t d : ℕ) (lt : t < m) (free : f t ≡ 0) (ld : d < r) where
+  free-put : pack r f m + d * r ^ t ≡ put r t (pack r f m) d
+  free-put =
+      let none : digit r t (pack r f m) ≡ 0 = digit-pack r f m small t lt ∙ free in
+      sym (put-value r t (pack r f m) d)
+      ∙ ap (λ (y : ℕ). put r t (pack r f m) d + y * r ^ t) none
+      ∙ ap (λ (y : ℕ). put r t (pack r f m) d + y) (zero-mul (r ^ t))
+      ∙ add-zero (put r t (pack r f m) d)
+
+  pub free-there : digit r t (pack r f m + d * r ^ t) ≡ d
+  free-there = ap (digit r t) free-put ∙ digit-put-same r t (pack r f m) d ld
+
+  pub free-else : (k : ℕ) → k < m → (k ≡ t → ⊥) → digit r k (pack r f m + d * r ^ t) ≡ f k
+  free-else k lk ne = ap (digit r k) free-put ∙ digit-put-other r k t (pack r f m) d ld ne ∙ digit-pack r f m small k lk

@@ -5,7 +5,7 @@ ghost use Rattle.tables.specs.Tables.{checkTableAnswer};
 ghost use Rattle.synthesis.specs.Synthesis.{synthesizeAnswer, synthesizeRoom};
 ghost use Rattle.cascades.specs.Answers.{checkAnswer, runAnswer, invertAnswer, invertRoom, priceAnswer};
 ghost use Rattle.tabulating.specs.Tabulating.{tabulateAnswer, tabulateRoom};
-ghost use Rattle.tidying.specs.Tidying.{tidyAnswer, tidyBuffer};
+ghost use Rattle.rules.specs.Tidying.{tidyAnswer, tidyBuffer};
 ghost use Rattle.choice.specs.Choice.{chooseAnswer};
 ghost use Rattle.files.specs.Files.{writeAnswer, writeRoom, readAnswer, readRecords, readNote};
 ghost use Rattle.files.specs.Readers.{openingAnswer, turnAt};

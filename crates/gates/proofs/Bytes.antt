@@ -42,6 +42,10 @@ pub weight-most : (k : ℕ) → k < 6 → 256 ^ k ≤ 1099511627776
 unfolding every
 weight-most k lt = leb-true _ _ (every-below (λ k. leb (256 ^ k) 1099511627776) 6 refl k lt)
 
+pub eight-bits : (t : ℕ) → t ≤ 6 → 2 ^ (8 * t) ≡ 256 ^ t
+unfolding every
+eight-bits t le = eqb-true _ _ (every-below (λ t. eqb (2 ^ (8 * t)) (256 ^ t)) 7 refl t (omega arith))
+
 pub weight-some : (k : ℕ) → k ≤ 6 → 1 ≤ 256 ^ k
 unfolding every
 weight-some k le = leb-true _ _ (every-below (λ k. leb 1 (256 ^ k)) 7 refl k (omega arith))
@@ -77,12 +81,37 @@ never-control k lt = eqb-true _ _ (every-below (λ k. eqb (byte (2 + k) 18229723
 pub byte-one : (w : ℕ) → byte 1 w ≡ w / 256 % 256
 byte-one w = rw (digit-suc, digit-zero)
 
+pub operator-word : (w : ℕ) → gateOf w .operator ≡ w % 256
+unfolding gateOf
+operator-word w = digit-zero 256 w
+
+pub target-word : (w : ℕ) → gateOf w .target ≡ w / 256 % 256
+unfolding gateOf
+target-word w = byte-one w
+
 -- the six control bytes alone
 pub byte-high : (k w : ℕ) → byte k (w / 65536) ≡ byte (2 + k) w
 byte-high k w =
     let two : 2 + k ≡ suc (suc k) = omega arith in
     let same : w / 256 / 256 ≡ w / 65536 = omega arith in
     rw (two, digit-suc, digit-suc, same)
+
+-- its 8 bytes, as they are stored
+pub byte-in : (w k : ℕ) → k < 8 → getD (bytesIn w) k 0 ≡ byte k w
+unfolding bytesIn
+byte-in w zero lt = refl
+byte-in w (suc zero) lt = refl
+byte-in w (suc (suc zero)) lt = refl
+byte-in w (suc (suc (suc zero))) lt = refl
+byte-in w (suc (suc (suc (suc zero)))) lt = refl
+byte-in w (suc (suc (suc (suc (suc zero))))) lt = refl
+byte-in w (suc (suc (suc (suc (suc (suc zero)))))) lt = refl
+byte-in w (suc (suc (suc (suc (suc (suc (suc zero))))))) lt = refl
+byte-in w (suc (suc (suc (suc (suc (suc (suc (suc k)))))))) lt = absurd (omega arith)
+
+pub length-word : (w : ℕ) → length (bytesIn w) ≡ 8
+unfolding bytesIn
+length-word w = refl
 
 -- a number of m bytes is 0 exactly if a test holds of each byte that holds exactly of the byte 0
 pub none-in : (m z : ℕ) (f : ℕ → Bool) → z < 256 ^ m → ((k : ℕ) → k < m → eqb (byte k z) 0 ≡ f k) → eqb z 0 ≡ every f 0 m

@@ -1,7 +1,7 @@
 -- A loop that counts k up to m has m - k numbers left.
 -- Assumes nothing.
 use mathlib.Core.Path.{_≡_}
-use mathlib.Core.Logic.{_⊎_}
+use mathlib.Core.Logic.{_⊎_, ⊎-elim}
 use Prim.Native.Nat.{ℕ, suc, _+_, _-_, _≤_, _<_}
 use native.Mathlib.Nat.{eq-or-lt-of-le}
 use native.Mathlib.Decide.{decLt}
@@ -24,3 +24,7 @@ lt-or-le a b = go (decLt a b)
     go : Dec (a < b) → (a < b) ⊎ (b ≤ a)
     go (yes l) = _⊎_.inl l
     go (no l) = _⊎_.inr (omega arith)
+
+-- a place q stands before p, or not
+pub by-place : (P : Type 0) (p q : ℕ) → (q < p → P) → (p ≤ q → P) → P
+by-place P p q before behind = ⊎-elim before behind (lt-or-le q p)

@@ -1,57 +1,29 @@
 -- The first pair of a list with gaps is the first pair of its gates: every gate passes a gap and fits none, so a row that is clear up to a place is
 -- clear up to the gates before that place; and the rule applied there is the rule applied to the gates. Assumes nothing.
-use mathlib.Core.Path.{_≡_, refl, sym, ap, ap₂, _∙_}
+use mathlib.Core.Path.{_≡_, sym, ap, ap₂, _∙_}
 use mathlib.Core.Logic.{⊎-elim}
-use mathlib.Core.Bool.{Bool, true, false, not, _&&_}
+use mathlib.Core.Bool.{true, false}
 use mathlib.Core.List.{List}
-use Prim.Native.Nat.{ℕ, zero, suc, _+_, _<_, _≤_}
+use Prim.Native.Nat.{ℕ, _+_, _<_, _≤_}
 use native.Mathlib.Omega.{arith}
-use lib.Dec.{eqb}
 use lib.ListN.{length, set, length-set}
 use lib.Seq.{getD-set-other, set-comm}
-use borrow.Author.Tests.{ne-eqb}
 use Rattle.ranges.specs.Lists.{Each}
 use Rattle.ranges.proofs.Bools.{decide, clash}
 use Rattle.ranges.proofs.Lists.{each-at}
 use Rattle.ranges.proofs.Searches.{found, found-unique}
-use Rattle.digits.specs.Digits.{digit}
+use Rattle.ranges.proofs.Counts.{by-place}
 use Rattle.gates.specs.declared.Gate.{Gate}
-use Rattle.gates.specs.Gates.{control, inverse, IsGate}
-use Rattle.tidying.specs.Places.{isC, upsets, blocks, clashes, mayChange}
-use Rattle.tidying.specs.Rules.{sameLines, cancels, merges, reduces, fits, loosened, retuned}
-use Rattle.tidying.specs.Tidying.{gate, firstJ, firstI, without, ruled}
-use Rattle.tidying.specs.Buffers.{gap, isGap, Stands, kept, rank}
-use Rattle.tidying.specs.Rows.{Quiet, Clear, Stops, Known, Low, PairAt}
-use Rattle.tidying.proofs.Gaps.{by-place, rank-all, rank-le, rank-mono, rank-rises, rank-lt, gate-kept, Standing, stands-at, rank-before, kept-set, kept-gone}
-use Rattle.tidying.proofs.Steps.{ruled-cancel, ruled-merge, ruled-reduce}
-use Rattle.tidying.proofs.Rows.{row, row-ends, row-stops, row-fits, row-hits}
-
--- ---- a gate and a gap
-
-not-six : (t : ℕ) → t < 6 → eqb t 6 ≡ false
-not-six t lt = ne-eqb t 6 (λ e. omega arith)
-
-gap-free : (t : ℕ) → t < 6 → control gap t ≡ 3
-unfolding digit
-gap-free zero lt = refl
-gap-free (suc zero) lt = refl
-gap-free (suc (suc zero)) lt = refl
-gap-free (suc (suc (suc zero))) lt = refl
-gap-free (suc (suc (suc (suc zero)))) lt = refl
-gap-free (suc (suc (suc (suc (suc zero))))) lt = refl
-gap-free (suc (suc (suc (suc (suc (suc t)))))) lt = absurd (omega arith)
-
-pub gap-passed : (g : Gate) → IsGate 6 g → mayChange g gap ≡ true
-unfolding mayChange clashes blocks upsets isC
-gap-passed g ok = rw (not-six (g .target) (ok .on-line), gap-free (g .target) (ok .on-line)) (none (not (eqb (control g 6) 3)))
-  where
-    none : (x : Bool) → not (x && false) ≡ true
-    none true = refl
-    none false = refl
-
-pub gap-unfit : (g : Gate) → IsGate 6 g → fits g gap ≡ false
-unfolding fits cancels merges reduces sameLines
-gap-unfit g ok = rw (not-six (g .target) (ok .on-line)) refl
+use Rattle.gates.specs.Gates.{inverse}
+use Rattle.rules.specs.Places.{mayChange}
+use Rattle.rules.specs.Rules.{cancels, merges, fits, loosened, retuned}
+use Rattle.rules.specs.Tidying.{gate, firstJ, firstI, without, ruled}
+use Rattle.rules.proofs.Steps.{ruled-cancel, ruled-merge, ruled-reduce}
+use Rattle.rows.specs.Buffers.{isGap, Stands, kept, rank}
+use Rattle.rows.specs.Rows.{Quiet, Clear, Stops, Known, Low}
+use Rattle.rows.proofs.Gaps.{rank-all, rank-le, rank-mono, rank-rises, rank-lt, gate-kept, Standing, stands-at, rank-before, kept-set, kept-gone, gap-passed, gap-unfit}
+use Rattle.rows.proofs.Rows.{row, row-ends, row-stops, row-fits, row-hits}
+use Rattle.tidying.specs.Searches.{PairAt}
 
 -- ---- rows
 

@@ -1,13 +1,2 @@
-pub mod Places
-pub mod Rules
-pub mod Weights
-pub mod Steps
-pub mod Endings
-pub mod Promises
-pub mod Gaps
-pub mod Buffers
-pub mod Rows
 pub mod Firsts
 pub mod Repetitions
-pub mod Words
-pub mod Stretches

@@ -15,15 +15,16 @@ use Rattle.ranges.proofs.Lists.{each-imp}
 use Rattle.gates.specs.declared.Gate.{Gate}
 use Rattle.gates.specs.Gates.{IsGate}
 use Rattle.cascades.specs.Cascades.{records, gatesOf, bytesOf}
-use Rattle.tidying.specs.Tidying.{firstJ, firstI, ruled, untidy, step, Tidied, size, tidied}
-use Rattle.tidying.specs.Buffers.{gatesIn, isGap, kept, rank, Holds, TidiedIn}
-use Rattle.tidying.specs.Rows.{Known, Low, PairAt}
-use Rattle.tidying.proofs.Weights.{control-count-le}
-use Rattle.tidying.proofs.Steps.{stepped-size, step-stepped}
-use Rattle.tidying.proofs.Endings.{afterSteps, after-none, after-one-more, one-answer, tidied-procedure}
-use Rattle.tidying.proofs.Gaps.{kept-all, rank-lt, rank-all, gate-real}
-use Rattle.tidying.proofs.Buffers.{length-gates, holds-list, holds-bytes}
-use Rattle.tidying.proofs.Rows.{known-start}
+use Rattle.rules.specs.Tidying.{firstJ, firstI, ruled, untidy, step, Tidied, size, tidied}
+use Rattle.rules.proofs.Weights.{control-count-le}
+use Rattle.rules.proofs.Steps.{stepped-size, step-stepped}
+use Rattle.rules.proofs.Endings.{afterSteps, after-none, after-one-more, one-answer, tidied-procedure}
+use Rattle.rows.specs.Buffers.{gatesIn, isGap, kept, rank, Holds}
+use Rattle.rows.specs.Rows.{Known, Low}
+use Rattle.rows.proofs.Gaps.{kept-all, rank-lt, rank-all, gate-real}
+use Rattle.rows.proofs.Buffers.{length-gates, holds-list, holds-bytes}
+use Rattle.rows.proofs.Rows.{known-start}
+use Rattle.tidying.specs.Searches.{TidiedIn, PairAt}
 use Rattle.tidying.proofs.Firsts.{First, first-at}
 
 -- a list of m gates has at most 7 m gates and controls

@@ -2,10 +2,11 @@
 ghost use mathlib.Core.Path.{_≡_};
 ghost use Prim.Native.Nat.{_≤_, _<_};
 ghost use lib.ListN.{set};
-ghost use Rattle.tidying.specs.Tidying.{ruled};
-ghost use Rattle.tidying.specs.Buffers.{gatesIn, gap, Stands, Holds, kept, rank};
-ghost use Rattle.tidying.specs.Rows.{Known, Low, Reached, PairAt};
-ghost use Rattle.tidying.specs.Views.{Marked};
+ghost use Rattle.rules.specs.Tidying.{ruled};
+ghost use Rattle.rows.specs.Buffers.{gatesIn, gap, Stands, Holds, kept, rank};
+ghost use Rattle.rows.specs.Rows.{Known, Low, Reached};
+ghost use Rattle.rows.specs.Views.{Marked};
+ghost use Rattle.tidying.specs.Searches.{PairAt};
 use gates::Gate;
 
 // What stands where a gate has gone.
@@ -37,9 +38,9 @@ fn replace(
     ensures { λ q. ⌜ Known (set (gatesIn (now (b .entry)) m) p g) (now (far .exit)) × (q ≤ from) × Low (now (far .exit)) q ⌝ }
     ensures { λ _. ⌜ Reached (now (far .exit)) (now (reach .exit)) m × Marked (set (gatesIn (now (b .entry)) m) p g) (now (marks .exit)) ⌝ }
 {
-    let low = super::memory::settle_rows(b, far, reach, marks, m, p, g, from);
+    let low = rows::memory::settle_rows(b, far, reach, marks, m, p, g, from);
     gates::encode(g, b, 8 * p);
-    super::views::forget_stretch(marks, p / 16);
+    rows::views::forget_stretch(marks, p / 16);
     low
 }
 
@@ -83,12 +84,12 @@ pub fn apply_rule(
     ensures { λ q. ⌜ Known (gatesIn (now (b .exit)) m) (now (far .exit)) × (q ≤ m) × Low (now (far .exit)) q ⌝ }
     ensures { λ _. ⌜ Reached (now (far .exit)) (now (reach .exit)) m × Marked (gatesIn (now (b .exit)) m) (now (marks .exit)) ⌝ }
 {
-    let g = super::buffer::read_gate(b, i);
-    let h = super::buffer::read_gate(b, j);
-    if super::fitting::cancels_pair(g, h) {
+    let g = rows::buffer::read_gate(b, i);
+    let h = rows::buffer::read_gate(b, j);
+    if rules::fitting::cancels_pair(g, h) {
         return replace_both(b, far, reach, marks, m, i, j, leave_gap(), leave_gap());
     }
-    if super::fitting::merges_pair(g, h) {
+    if rules::fitting::merges_pair(g, h) {
         return replace_both(
             b,
             far,
@@ -98,9 +99,9 @@ pub fn apply_rule(
             i,
             j,
             leave_gap(),
-            super::fitting::invert(h),
+            rules::fitting::invert(h),
         );
     }
-    let made = super::fitting::reduce_pair(g, h);
+    let made = rules::fitting::reduce_pair(g, h);
     replace_both(b, far, reach, marks, m, i, j, made.first, made.second)
 }

@@ -1,17 +1,11 @@
 // Tidying a cascade where it lies: the first open pair that fits a rule, again and again, until none fits.
 ghost use mathlib.Core.Path.{_≡_};
-ghost use Rattle.tidying.specs.Tidying.{tidyAnswer, tidyBuffer};
+ghost use Rattle.rules.specs.Tidying.{tidyAnswer, tidyBuffer};
 ghost use Rattle.tidying.specs.Answers.{tidiedAs};
 
 mod applying;
-mod buffer;
-mod controls;
-mod fitting;
-mod memory;
-mod passing;
 mod repeating;
 mod scan;
-mod views;
 
 use cascades::Counted;
 

@@ -8,15 +8,15 @@ use lib.ListN.{length, set, length-set}
 use Rattle.gates.specs.declared.Gate.{Gate}
 use Rattle.gates.specs.Gates.{inverse, IsGate}
 use Rattle.gates.proofs.Gates.{inverse-gate}
-use Rattle.tidying.specs.Rules.{cancels, merges, reduces, loosened, retuned}
-use Rattle.tidying.specs.Tidying.{gate, ruled}
-use Rattle.tidying.specs.Buffers.{gatesIn, isGap, Holds, kept, rank}
-use Rattle.tidying.specs.Rows.{Known, Low, Reached}
-use Rattle.tidying.specs.Views.{Marked}
-use Rattle.tidying.proofs.Rules.{reduction, loosened-gate, retuned-gate}
-use Rattle.tidying.proofs.Steps.{last-rule}
-use Rattle.tidying.proofs.Gaps.{gate-real}
-use Rattle.tidying.proofs.Buffers.{length-gates, gate-in, holds-fits, holds-gate, holds-lines, holds-as, stands-gate, stands-gap}
+use Rattle.rules.specs.Rules.{cancels, merges, reduces, loosened, retuned}
+use Rattle.rules.specs.Tidying.{gate, ruled}
+use Rattle.rules.proofs.Rules.{reduction, loosened-gate, retuned-gate}
+use Rattle.rules.proofs.Steps.{last-rule}
+use Rattle.rows.specs.Buffers.{gatesIn, isGap, Holds, kept, rank}
+use Rattle.rows.specs.Rows.{Known, Low, Reached}
+use Rattle.rows.specs.Views.{Marked}
+use Rattle.rows.proofs.Gaps.{gate-real}
+use Rattle.rows.proofs.Buffers.{length-gates, gate-in, holds-fits, holds-gate, holds-lines, holds-as, stands-gate, stands-gap}
 use Rattle.tidying.proofs.Firsts.{fits-real, ruled-none, ruled-one, ruled-two}
 use borrow.Author.Needs.{needs}
 use Rattle.tidying.proofs.applying.apply_rule.Statement.{statement}

@@ -7,13 +7,13 @@ use native.Mathlib.Omega.{arith}
 use lib.ListN.{length}
 use Rattle.cascades.specs.Cascades.{gatesOf}
 use Rattle.cascades.proofs.Cascades.{gates-count}
-use Rattle.tidying.specs.Tidying.{size}
-use Rattle.tidying.specs.Buffers.{gatesIn}
-use Rattle.tidying.specs.Rows.{Reached}
-use Rattle.tidying.specs.Views.{Marked}
-use Rattle.tidying.proofs.Buffers.{length-gates}
-use Rattle.tidying.proofs.Rows.{reach-start}
-use Rattle.tidying.proofs.Stretches.{marked-start}
+use Rattle.rules.specs.Tidying.{size}
+use Rattle.rows.specs.Buffers.{gatesIn}
+use Rattle.rows.specs.Rows.{Reached}
+use Rattle.rows.specs.Views.{Marked}
+use Rattle.rows.proofs.Buffers.{length-gates}
+use Rattle.rows.proofs.Rows.{reach-start}
+use Rattle.rows.proofs.Stretches.{marked-start}
 use Rattle.tidying.proofs.Repetitions.{size-le, Going, going-start, going-next, going-done}
 use Rattle.tidying.proofs.repeating.repeat_steps.Statement.{statement}
 use Rattle.tidying.proofs.repeating.repeat_steps.Tie as tie

@@ -13,15 +13,15 @@ use borrow.Author.Needs.{needs}
 use Rattle.gates.specs.declared.Gate.{Gate}
 use Rattle.gates.specs.Gates.{IsGate}
 use Rattle.gates.specs.Words.{gateOf}
-use Rattle.tidying.specs.Places.{mayChange}
-use Rattle.tidying.specs.Rules.{fits}
-use Rattle.tidying.specs.Tidying.{gate}
-use Rattle.tidying.specs.Buffers.{gatesIn, isGap}
-use Rattle.tidying.specs.Rows.{Clear, Stops, Known, Low, Reached}
-use Rattle.tidying.specs.Views.{Marked}
-use Rattle.tidying.proofs.Buffers.{length-gates, holds-gate}
-use Rattle.tidying.proofs.Rows.{clear-next, row-real, row-clear, known-stops, reach-others, low-next}
-use Rattle.tidying.proofs.Stretches.{shut-unfit}
+use Rattle.rules.specs.Places.{mayChange}
+use Rattle.rules.specs.Rules.{fits}
+use Rattle.rules.specs.Tidying.{gate}
+use Rattle.rows.specs.Buffers.{gatesIn, isGap}
+use Rattle.rows.specs.Rows.{Clear, Stops, Known, Low, Reached}
+use Rattle.rows.specs.Views.{Marked}
+use Rattle.rows.proofs.Buffers.{length-gates, holds-gate}
+use Rattle.rows.proofs.Rows.{clear-next, row-real, row-clear, known-stops, reach-others, low-next}
+use Rattle.rows.proofs.Stretches.{shut-unfit}
 use Rattle.tidying.proofs.scan.find_pair.Statement.{statement}
 use Rattle.tidying.proofs.scan.find_pair.Tie as tie
 

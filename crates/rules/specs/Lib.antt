@@ -1,0 +1,4 @@
+pub mod Places
+pub mod Rules
+pub mod Tidying
+pub mod Words

@@ -1,0 +1,71 @@
+// Which gates may change places, asked of the numbers that their records are.
+ghost use mathlib.Core.Path.{_≡_};
+ghost use mathlib.Core.Bool.{cond, not};
+ghost use Prim.Native.Nat.{_≤_, _<_};
+ghost use lib.Dec.{eqb};
+ghost use Rattle.gates.specs.Words.{gateOf};
+ghost use Rattle.gates.specs.Gates.{control};
+ghost use Rattle.rules.specs.Places.{isC, sameType, blocks, clashes, mayChange};
+ghost use Rattle.rules.specs.Words.{Written};
+
+// The operator is C1 or C2.
+pub fn is_c(o: u8) -> bool
+    ensures { λ r. ⌜ r ≡ isC o ⌝ }
+{
+    o == 1 || o == 2
+}
+
+// The gate's control on line t.
+fn control_in(w: u64, t: u64) -> u64
+    requires { ⌜ Written w × (t ≤ 6) ⌝ }
+    ensures { λ r. ⌜ (r ≡ control (gateOf w) t) × (r < 4) ⌝ }
+{
+    (w / 65536 >> (8 * t)) % 256
+}
+
+// A bit for each operator and each value of a control, set where the operator upsets it. Value 3 is no control.
+const UPSETS: u64 = 3561328;
+
+// 1 where the target of g is a control of h that g upsets, else 0.
+fn blocks_gate(g: u64, h: u64) -> u64
+    requires { ⌜ Written g × Written h ⌝ }
+    ensures { λ r. ⌜ r ≡ cond (blocks (gateOf g) (gateOf h)) 1 0 ⌝ }
+{
+    let v = control_in(h, g / 256 % 256);
+    (UPSETS >> (4 * (g % 256) + v)) % 2
+}
+
+// A bit for each two operators, set where they are not of one type.
+const APART: u64 = 34089180798;
+
+// 1 where two operators are not of one type, else 0.
+fn types_apart(a: u64, b: u64) -> u64
+    requires { ⌜ (a < 6) × (b < 6) ⌝ }
+    ensures { λ r. ⌜ r ≡ cond (not (sameType a b)) 1 0 ⌝ }
+{
+    (APART >> (6 * a + b)) % 2
+}
+
+// 1 where two numbers are one, else 0.
+fn as_one(x: u64, y: u64) -> u64
+    ensures { λ r. ⌜ r ≡ cond (eqb x y) 1 0 ⌝ }
+{
+    if x == y { 1 } else { 0 }
+}
+
+// 1 where they have one target and are not of one type, else 0.
+fn targets_clash(g: u64, h: u64) -> u64
+    requires { ⌜ Written g × Written h ⌝ }
+    ensures { λ r. ⌜ r ≡ cond (clashes (gateOf g) (gateOf h)) 1 0 ⌝ }
+{
+    let one = as_one(g / 256 % 256, h / 256 % 256);
+    (one + types_apart(g % 256, h % 256)) / 2
+}
+
+// The gates may change places: none of three reasons against it, which are counted so that none is a branch.
+pub fn may_change(g: u64, h: u64) -> bool
+    requires { ⌜ Written g × Written h ⌝ }
+    ensures { λ r. ⌜ r ≡ mayChange (gateOf g) (gateOf h) ⌝ }
+{
+    targets_clash(g, h) + blocks_gate(g, h) + blocks_gate(h, g) == 0
+}
