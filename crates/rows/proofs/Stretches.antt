@@ -4,7 +4,7 @@ use mathlib.Core.Path.{_≡_, refl, sym, ap, ap₂, _∙_}
 use mathlib.Core.Logic.{⊎-elim}
 use mathlib.Core.Bool.{Bool, true, false, cond, not, _&&_}
 use mathlib.Core.List.{List, _++_}
-use Prim.Native.Nat.{ℕ, zero, suc, _+_, _*_, _/_, _%_, _^_, _<_, _≤_}
+use Prim.Native.Nat.{ℕ, zero, suc, _+_, _-_, _*_, _/_, _%_, _^_, _<_, _≤_}
 use native.Mathlib.Nat.{le-trans, mul-le-mul-left}
 use native.Mathlib.Decide.{ℕ-discrete}
 use native.Mathlib.Omega.{arith}
@@ -29,7 +29,7 @@ use Rattle.digits.proofs.Bits.{digit-and, digit-of-zero, or-meets}
 use Rattle.gates.specs.declared.Gate.{Gate}
 use Rattle.gates.specs.Gates.{control, IsGate}
 use Rattle.gates.specs.Words.{byte, gateOf, Low, controlMarks, otherMarks}
-use Rattle.gates.proofs.Bytes.{byte-high, operator-word, target-word}
+use Rattle.gates.proofs.Bytes.{byte-one, byte-high, operator-word, target-word}
 use Rattle.gates.proofs.Marks.{control-word}
 use Rattle.rules.specs.Places.{isC, sameType, upsets, blocks, clashes, mayChange}
 use Rattle.rules.specs.Rules.{sameLines, fits}
@@ -38,7 +38,7 @@ use Rattle.rules.proofs.Rules.{both-or-none}
 use Rattle.rules.proofs.Pairs.{type-swap, one-passes, lines-on, fits-passes}
 use Rattle.rows.specs.Buffers.{isGap, Stands}
 use Rattle.rows.specs.Rows.{Quiet, Clear}
-use Rattle.rows.specs.Views.{upsetters, shunned, ownPart, viewOf, otherPart, againstOf, folded, kindOf, Seen, Passed, Marked}
+use Rattle.rows.specs.Views.{typeOf, upsetters, shunned, ownPart, viewOf, otherPart, againstOf, sixBits, kindOf, allKinds, Seen, Passed, Marked}
 use Rattle.rows.proofs.Gaps.{gate-real, gap-passed, gap-unfit}
 
 -- ---- the bytes of a view
@@ -51,27 +51,28 @@ upsetters-lt : (c : ℕ) → c < 4 → upsetters c < 16
 unfolding upsetters every
 upsetters-lt c lt = ltb-true _ _ (every-below (λ c. ltb (upsetters c) 16) 4 refl c lt)
 
--- parts of gates, of which operator 0 is none
-pub own-lt : (o : ℕ) → ownPart o < 256
-unfolding ownPart
-own-lt o = go (eqb o 0) (isC o) (eqb o 3) (eqb o 4)
+-- the two halves of a byte
+type-lt : (o : ℕ) → typeOf o < 16
+unfolding typeOf
+type-lt o = go (isC o) (eqb o 3) (eqb o 4)
   where
-    go : (a b c d : Bool) → cond a 0 (cond b 135 (cond c 30 (cond d 75 45))) < 256
-    go true b c d = omega arith
-    go false true c d = omega arith
-    go false false true d = omega arith
-    go false false false true = omega arith
-    go false false false false = omega arith
-
-pub other-lt : (o : ℕ) → otherPart o < 256
-unfolding otherPart
-other-lt o = go (isC o) (eqb o 3) (eqb o 4)
-  where
-    go : (b c d : Bool) → cond b 120 (cond c 225 (cond d 180 210)) < 256
-    go true c d = omega arith
-    go false true d = omega arith
+    go : (a b c : Bool) → cond a 8 (cond b 1 (cond c 4 2)) < 16
+    go true b c = omega arith
+    go false true c = omega arith
     go false false true = omega arith
     go false false false = omega arith
+
+own-lt : (o : ℕ) → ownPart o < 256
+unfolding ownPart
+own-lt o = go (eqb o 0) (type-lt o)
+  where
+    go : (none : Bool) → typeOf o < 16 → cond none 0 (15 - typeOf o + 16 * typeOf o) < 256
+    go true lt = omega arith
+    go false lt = omega arith
+
+other-lt : (o : ℕ) → otherPart o < 256
+unfolding otherPart
+other-lt o = omega (arith, type-lt o)
 
 module _ (g : Gate) (ok : IsGate 6 g) where
   line-lt : (k : ℕ) → control g k < 4
@@ -109,7 +110,7 @@ types-test : ℕ → ℕ → Bool
 types-test a b = cond (eqb (bitAnd (ownPart b) (otherPart a)) 0) (sameType a b) true
 
 bytes-types : (a b : ℕ) → 0 < a → a < 6 → 0 < b → b < 6 → bitAnd (ownPart b) (otherPart a) ≡ 0 → sameType a b ≡ true
-unfolding types-test every ownPart otherPart sameType isC
+unfolding types-test every typeOf ownPart otherPart sameType isC
 bytes-types (suc a) (suc b) pa la pb lb e =
     if-so (eqb (bitAnd (ownPart (suc b)) (otherPart (suc a))) 0) (sameType (suc a) (suc b))
     (every-below (λ b. types-test (suc a) (suc b)) 5 (every-below (λ a. every (λ b. types-test (suc a) (suc b)) 0 5) 5 refl a (omega arith)) b (omega arith)) (eq-eqb _ _ e)
@@ -120,7 +121,7 @@ upset-test : ℕ → ℕ → Bool
 upset-test o c = cond (eqb (bitAnd (upsetters c) (otherPart o)) 0) (not (not (eqb c 3) && upsets o c)) true
 
 bytes-upset : (o c : ℕ) → 0 < o → o < 6 → c < 4 → bitAnd (upsetters c) (otherPart o) ≡ 0 → (not (eqb c 3) && upsets o c) ≡ false
-unfolding upset-test every upsetters otherPart upsets isC
+unfolding upset-test every upsetters typeOf otherPart upsets isC
 bytes-upset (suc o) c po lo lc e =
     not-true _
     (if-so (eqb (bitAnd (upsetters c) (otherPart (suc o))) 0) (not (not (eqb c 3) && upsets (suc o) c))
@@ -131,7 +132,7 @@ back-test : ℕ → ℕ → Bool
 back-test o c = cond (eqb (bitAnd (ownPart o) (16 * upsetters c)) 0) (not (not (eqb c 3) && upsets o c)) true
 
 bytes-back : (o c : ℕ) → 0 < o → o < 6 → c < 4 → bitAnd (ownPart o) (16 * upsetters c) ≡ 0 → (not (eqb c 3) && upsets o c) ≡ false
-unfolding back-test every upsetters ownPart upsets isC
+unfolding back-test every upsetters typeOf ownPart upsets isC
 bytes-back (suc o) c po lo lc e =
     not-true _
     (if-so (eqb (bitAnd (ownPart (suc o)) (16 * upsetters c)) 0) (not (not (eqb c 3) && upsets (suc o) c))
@@ -198,7 +199,7 @@ module _ (g h : Gate) (okg : IsGate 6 g) (okh : IsGate 6 h) where
   unfolding kindOf
   one-kind e =
       let same : sameLines g h ≡ true = lines-on g h okg okh e in
-      rw (gate-real g okg, gate-real h okh) (ap (λ (a : ℕ). 2 ^ folded a) (pack-ext 256 _ _ 6 (λ k l. ap (λ (b : Bool). cond b 0 1) (sym (both-or-none g h same k l)))))
+      rw (gate-real g okg, gate-real h okh) (ap (λ (a : ℕ). 2 ^ sixBits a) (pack-ext 256 _ _ 6 (λ k l. ap (λ (b : Bool). cond b 0 1) (sym (both-or-none g h same k l)))))
 
 -- the bit of a kind
 kind-bit : (n : ℕ) → n < 64 → (0 < 2 ^ n) × (2 ^ n < 18446744073709551616)
@@ -210,13 +211,13 @@ pub shifted-bit : (n : ℕ) → n < 64 → (1 * 2 ^ n) % 18446744073709551616 �
 unfolding every
 shifted-bit n lt = eqb-true _ _ (every-below (λ n. eqb ((1 * 2 ^ n) % 18446744073709551616) (2 ^ n)) 64 refl n lt)
 
-pub folded-lt : (a : ℕ) → folded a < 64
-unfolding folded
-folded-lt a = omega arith
+pub six-bits-lt : (a : ℕ) → sixBits a < 64
+unfolding sixBits
+six-bits-lt a = omega arith
 
 kind-some : (g : Gate) → IsGate 6 g → (0 < kindOf g) × (kindOf g < 18446744073709551616)
 unfolding kindOf
-kind-some g ok = rw (gate-real g ok) (kind-bit _ (folded-lt _))
+kind-some g ok = rw (gate-real g ok) (kind-bit _ (six-bits-lt _))
 
 -- gates of one kind meet
 kinds-meet : (g h : Gate) → IsGate 6 g → kindOf h ≡ kindOf g → bitAnd (kindOf h) (kindOf g) ≡ 0 → ⊥
@@ -285,7 +286,7 @@ quiet-rows gs x e u v g sets kind w ok stands seen a b l c d inside real =
 some-rest : (n : ℕ) → 0 < n → n < 18446744073709551616 → n % 18446744073709551616 ≡ 0 → ⊥
 some-rest n pos lt e = omega arith
 
-pub passed-all : (gs : List Gate) (x e u : ℕ) → Passed gs x e u 18446744073709551615
+pub passed-all : (gs : List Gate) (x e u : ℕ) → Passed gs x e u allKinds
 passed-all gs x e u =
     record {
       quiet = λ g ok a b l c d. absurd (some-rest (kindOf g) (kind-some g ok .0) (kind-some g ok .1) (sym (and-mask (kindOf g) 64) ∙ b));
@@ -293,27 +294,27 @@ passed-all gs x e u =
     }
 
 pub marked-start : (gs : List Gate) (marks : List ℕ) (n : ℕ) → length gs ≤ 8 * n → length gs + 16 ≤ 8 * length marks
-    → Marked gs (span (λ k. 18446744073709551615) 0 n ++ drop n marks)
+    → Marked gs (span (λ k. allKinds) 0 n ++ drop n marks)
 marked-start gs marks n le room =
     record {
-      room = omega (arith, length-append {A = ℕ} (span (λ k. 18446744073709551615) 0 n) (drop n marks), length-span {A = ℕ} (λ k. 18446744073709551615) 0 n, length-drop n marks);
-      each = λ s l. rw (filled-at {A = ℕ} (λ k. 18446744073709551615) marks n (2 * s + 1) 0 (omega arith)) (passed-all gs (16 * s) (16 * s + 16) _);
+      room = omega (arith, length-append {A = ℕ} (span (λ k. allKinds) 0 n) (drop n marks), length-span {A = ℕ} (λ k. allKinds) 0 n, length-drop n marks);
+      each = λ s l. rw (filled-at {A = ℕ} (λ k. allKinds) marks n (2 * s + 1) 0 (omega arith)) (passed-all gs (16 * s) (16 * s + 16) _);
     }
 
 -- gate p is replaced, and its stretch forgotten
-pub marked-set : (gs : List Gate) (marks : List ℕ) (p : ℕ) (g : Gate) → p < length gs → Marked gs marks → Marked (set gs p g) (set marks (2 * (p / 16) + 1) 18446744073709551615)
+pub marked-set : (gs : List Gate) (marks : List ℕ) (p : ℕ) (g : Gate) → p < length gs → Marked gs marks → Marked (set gs p g) (set marks (2 * (p / 16) + 1) allKinds)
 marked-set gs marks p g lt w =
     record {
-      room = rw (length-set gs p g, length-set marks (2 * (p / 16) + 1) 18446744073709551615) (w .room);
+      room = rw (length-set gs p g, length-set marks (2 * (p / 16) + 1) allKinds) (w .room);
       each = λ s l. go s (rw (length-set gs p g) at l) (ℕ-discrete s (p / 16));
     }
   where
     go : (s : ℕ) → 16 * s + 16 ≤ length gs → Dec (s ≡ p / 16)
-        → Passed (set gs p g) (16 * s) (16 * s + 16) (getD (set marks (2 * (p / 16) + 1) 18446744073709551615) (2 * s) 0) (getD (set marks (2 * (p / 16) + 1) 18446744073709551615) (2 * s + 1) 0)
+        → Passed (set gs p g) (16 * s) (16 * s + 16) (getD (set marks (2 * (p / 16) + 1) allKinds) (2 * s) 0) (getD (set marks (2 * (p / 16) + 1) allKinds) (2 * s + 1) 0)
     go s l (yes e) =
-        rw (e, getD-set-same marks (2 * (p / 16) + 1) 18446744073709551615 0 (omega (arith, w .room))) (passed-all (set gs p g) (16 * (p / 16)) (16 * (p / 16) + 16) _)
+        rw (e, getD-set-same marks (2 * (p / 16) + 1) allKinds 0 (omega (arith, w .room))) (passed-all (set gs p g) (16 * (p / 16)) (16 * (p / 16) + 16) _)
     go s l (no ne) =
-        rw (getD-set-other marks (2 * (p / 16) + 1) (2 * s) 18446744073709551615 0 (λ e. omega arith), getD-set-other marks (2 * (p / 16) + 1) (2 * s + 1) 18446744073709551615 0 (λ e. ne (omega arith)))
+        rw (getD-set-other marks (2 * (p / 16) + 1) (2 * s) allKinds 0 (λ e. omega arith), getD-set-other marks (2 * (p / 16) + 1) (2 * s + 1) allKinds 0 (λ e. ne (omega arith)))
         (record {
           quiet = λ h ok a b k c d. rw (getD-set-other gs p k g _ (λ e. ne (omega arith))) (w .each s l .quiet h ok a b k c d);
           back = λ h ok a b k c d. rw (getD-set-other gs p k g _ (λ e. ne (omega arith))) (w .each s l .back h ok a b k c d);
@@ -373,7 +374,7 @@ module _ (w : ℕ) (low : Low w) where
   unfolding kindOf
   kind-none e = rw (gap-word ∙ eq-eqb (w % 256) 0 e) refl
 
-  pub kind-word : (w % 256 ≡ 0 → ⊥) → kindOf (gateOf w) ≡ 2 ^ folded (controlMarks w)
+  pub kind-word : (w % 256 ≡ 0 → ⊥) → kindOf (gateOf w) ≡ 2 ^ sixBits (controlMarks w)
   unfolding kindOf
   kind-word ne = rw (gap-word ∙ ne-eqb (w % 256) 0 ne, marks-word) refl
 
@@ -403,10 +404,10 @@ module _ (w : ℕ) (small : w < 256 ^ 8) (low : Low w) where
   unfolding againstOf
   against-word = ap₂ (λ (o t : ℕ). 16 * shunned (gateOf w) + otherPart o * 256 ^ t) (sym (operator-word w)) (sym (target-word w))
 
--- the weight of a line's byte, and a byte there
-pub weight-most : (t : ℕ) → t ≤ 6 → 256 ^ t ≤ 281474976710656
+-- a byte at the place of a line, or of a gap's target
+weight-most : (t : ℕ) → t ≤ 6 → 256 ^ t ≤ 281474976710656
 unfolding every
 weight-most t le = leb-true _ _ (every-below (λ t. leb (256 ^ t) 281474976710656) 7 refl t (omega arith))
 
-pub part-most : (d x : ℕ) → d < 256 → x ≤ 281474976710656 → d * x ≤ 71776119061217280
-part-most d x lt le = le-trans (mul-le-mul-left d le) (omega arith)
+pub part-most : (d w : ℕ) → d < 256 → byte 1 w ≤ 6 → d * 256 ^ (w / 256 % 256) ≤ 71776119061217280
+part-most d w lt le = le-trans (mul-le-mul-left d (weight-most (w / 256 % 256) (rw (← byte-one w) le))) (omega arith)

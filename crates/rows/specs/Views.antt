@@ -2,7 +2,7 @@
 use mathlib.Core.Path.{_≡_}
 use mathlib.Core.Bool.{false, cond}
 use mathlib.Core.List.{List}
-use Prim.Native.Nat.{ℕ, _+_, _*_, _/_, _%_, _^_, _<_, _≤_}
+use Prim.Native.Nat.{ℕ, _+_, _-_, _*_, _/_, _%_, _^_, _<_, _≤_}
 use lib.Bits.{bitAnd, bitOr}
 use lib.Dec.{eqb}
 use lib.ListN.{length, getD}
@@ -14,33 +14,64 @@ use Rattle.rules.specs.Tidying.{gate}
 use Rattle.rows.specs.Buffers.{isGap}
 use Rattle.rows.specs.Rows.{Quiet}
 
--- A byte for each line. Its low half has a bit for each type of operator: N 1, E 2, D 4, C 8. It says which types on that line as their target the
--- gate cannot pass: those that upset its control, or on its own target those of another type. The high half of its target's byte is its own type.
-unfoldable pub upsetters : ℕ → ℕ
-upsetters v = cond (eqb v 3) 0 (cond (eqb v 0) 11 (cond (eqb v 1) 14 13))
+-- ---- the types of operators
 
+-- a set of types is a number below 16: a bit for each type
+abbrev pub typeN : ℕ
+typeN = 1
+
+abbrev pub typeE : ℕ
+typeE = 2
+
+abbrev pub typeD : ℕ
+typeD = 4
+
+abbrev pub typeC : ℕ
+typeC = 8
+
+abbrev pub allBut : ℕ → ℕ
+allBut types = 15 - types
+
+-- the type of an operator
+unfoldable pub typeOf : ℕ → ℕ
+typeOf o = cond (isC o) typeC (cond (eqb o 3) typeN (cond (eqb o 4) typeD typeE))
+
+-- the types that upset a control of value v: D alone passes 0, N alone 1, E alone 2; and 3 is no control
+unfoldable pub upsetters : ℕ → ℕ
+upsetters v = cond (eqb v 3) 0 (allBut (cond (eqb v 0) typeD (cond (eqb v 1) typeN typeE)))
+
+-- ---- what a gate is for others
+
+-- A byte for each line. Its low half has the types that the gate cannot pass where they have that line as their target: those that upset its control
+-- there, and on its own target all types but its own. The high half of its own target's byte has its type.
 unfoldable pub shunned : Gate → ℕ
 shunned g = pack 256 (λ k. upsetters (control g k)) 6
 
 unfoldable pub ownPart : ℕ → ℕ
-ownPart o = cond (eqb o 0) 0 (cond (isC o) 135 (cond (eqb o 3) 30 (cond (eqb o 4) 75 45)))
+ownPart o = cond (eqb o 0) 0 (allBut (typeOf o) + 16 * typeOf o)
 
 unfoldable pub viewOf : Gate → ℕ
 viewOf g = shunned g + ownPart (g .operator) * 256 ^ g .target
 
 -- the same with the halves of each byte exchanged: what a view must not meet
 unfoldable pub otherPart : ℕ → ℕ
-otherPart o = cond (isC o) 120 (cond (eqb o 3) 225 (cond (eqb o 4) 180 210))
+otherPart o = typeOf o + 16 * allBut (typeOf o)
 
 unfoldable pub againstOf : Gate → ℕ
 againstOf g = 16 * shunned g + otherPart (g .operator) * 256 ^ g .target
 
--- a bit for the set of its control lines, which the gates of a fitting pair share
-unfoldable pub folded : ℕ → ℕ
-folded a = let two = bitOr a (a / 8388608) in bitOr (bitOr two (two / 64)) (two / 4096) % 64
+-- Six bytes of 0 or 1 as six bits: the upper three bytes come to stand beside the lower three, and then the three pairs side by side. Which bit stands
+-- for which byte has no part in any proof: it matters only that equal bytes make equal bits.
+unfoldable pub sixBits : ℕ → ℕ
+sixBits marks = let pairs = bitOr marks (marks / 2 ^ 23) in bitOr (bitOr pairs (pairs / 2 ^ 6)) (pairs / 2 ^ 12) % 64
 
+-- the kind of a gate: of 64 bits the one for the set of its control lines, which the gates of a fitting pair share; a gap has none
 unfoldable pub kindOf : Gate → ℕ
-kindOf g = cond (isGap g) 0 (2 ^ folded (pack 256 (λ k. cond (eqb (control g k) 3) 0 1) 6))
+kindOf g = cond (isGap g) 0 (2 ^ sixBits (pack 256 (λ k. cond (eqb (control g k) 3) 0 1) 6))
+
+-- every kind: each gate meets this, so nothing is said of a stretch that has it
+abbrev pub allKinds : ℕ
+allKinds = 18446744073709551615
 
 -- what a gate must not meet; of a gap nothing is said
 abbrev pub Seen : Gate → ℕ → ℕ → Type 0

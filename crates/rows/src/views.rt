@@ -11,11 +11,11 @@ ghost use Rattle.rules.specs.Tidying.{gate};
 ghost use Rattle.rules.specs.Words.{Written};
 ghost use Rattle.rows.specs.Buffers.{gatesIn, isGap, Stands, Holds};
 ghost use Rattle.rows.specs.Rows.{Clear};
-ghost use Rattle.rows.specs.Views.{shunned, ownPart, viewOf, otherPart, againstOf, folded, kindOf, Seen, Passed, Marked};
+ghost use Rattle.rows.specs.Views.{shunned, ownPart, viewOf, otherPart, againstOf, sixBits, kindOf, allKinds, Seen, Passed, Marked};
 use gates::Gate;
 
 // Of a stretch of which nothing is known.
-const ALL: u64 = 18446744073709551615;
+const ALL: u64 = 0xffffffffffffffff;
 
 // For each line the types that upset the gate's control there: a control of 0, 1 or 2 comes to 11, 14 or 13, and none to 0.
 fn shun(w: u64) -> u64
@@ -27,39 +27,31 @@ fn shun(w: u64) -> u64
         - 0x010101010101
 }
 
-// The byte of a view on the gate's target: the types that it cannot pass there, and its own 16 times.
+// The byte of a view on the gate's target: its own type in the high half, and all types but this in the low half.
 fn own_part(o: u64) -> u64
     ensures { λ r. ⌜ (r ≡ ownPart o) × (r < 256) ⌝ }
 {
     match o {
         0 => 0,
-        1 => 135,
-        2 => 135,
-        3 => 30,
-        4 => 75,
-        _ => 45,
+        1 => 0x87,
+        2 => 0x87,
+        3 => 0x1e,
+        4 => 0x4b,
+        _ => 0x2d,
     }
 }
 
-// The byte that a view must not meet there: its own type, and the others 16 times.
+// The byte that a view must not meet there: the halves are exchanged.
 fn other_part(o: u64) -> u64
     ensures { λ r. ⌜ (r ≡ otherPart o) × (r < 256) ⌝ }
 {
     match o {
-        1 => 120,
-        2 => 120,
-        3 => 225,
-        4 => 180,
-        _ => 210,
+        1 => 0x78,
+        2 => 0x78,
+        3 => 0xe1,
+        4 => 0xb4,
+        _ => 0xd2,
     }
-}
-
-// The weight of a line's byte.
-fn weight(t: u64) -> u64
-    requires { ⌜ t ≤ 6 ⌝ }
-    ensures { λ r. ⌜ (r ≡ 256 ^ t) × (r ≤ 281474976710656) ⌝ }
-{
-    1 << (8 * t)
 }
 
 // What a gate is for others, and what it cannot pass.
@@ -67,7 +59,7 @@ fn view(w: u64) -> u64
     requires { ⌜ Written w ⌝ }
     ensures { λ r. ⌜ r ≡ viewOf (gateOf w) ⌝ }
 {
-    shun(w) + own_part(w % 256) * weight(w / 256 % 256)
+    shun(w) + own_part(w % 256) * gates::words::weight(w / 256 % 256)
 }
 
 // What a view must not meet.
@@ -75,12 +67,12 @@ fn against(w: u64) -> u64
     requires { ⌜ Written w ⌝ }
     ensures { λ r. ⌜ r ≡ againstOf (gateOf w) ⌝ }
 {
-    16 * shun(w) + other_part(w % 256) * weight(w / 256 % 256)
+    16 * shun(w) + other_part(w % 256) * gates::words::weight(w / 256 % 256)
 }
 
 // Six bytes of 0 or 1 as six bits.
 fn fold_marks(a: u64) -> u64
-    ensures { λ r. ⌜ (r ≡ folded a) × (r < 64) ⌝ }
+    ensures { λ r. ⌜ (r ≡ sixBits a) × (r < 64) ⌝ }
 {
     let two = a | a / 8388608;
     (two | two / 64 | two / 4096) % 64
@@ -159,7 +151,7 @@ pub fn mark_stretch(b: &[u8], marks: &mut [u64], m: usize, s: usize)
 // Of n / 2 stretches nothing is known.
 pub fn start_marks(marks: &mut [u64], n: usize)
     requires { ⌜ (n ≤ 1000) × (n ≤ length (now marks)) ⌝ }
-    ensures { λ _. ⌜ now (marks .exit) ≡ span (λ k. 18446744073709551615) 0 n ++ drop n (now (marks .entry)) ⌝ }
+    ensures { λ _. ⌜ now (marks .exit) ≡ span (λ k. allKinds) 0 n ++ drop n (now (marks .entry)) ⌝ }
 {
     let mut k: usize = 0;
     while k < n {
@@ -171,7 +163,7 @@ pub fn start_marks(marks: &mut [u64], n: usize)
 // Stretch s is not known.
 pub fn forget_stretch(marks: &mut [u64], s: usize)
     requires { ⌜ (2 * s + 1 < length (now marks)) × (s < 8000) ⌝ }
-    ensures { λ _. ⌜ now (marks .exit) ≡ set (now (marks .entry)) (2 * s + 1) 18446744073709551615 ⌝ }
+    ensures { λ _. ⌜ now (marks .exit) ≡ set (now (marks .entry)) (2 * s + 1) allKinds ⌝ }
 {
     marks[2 * s + 1] = ALL;
 }

@@ -9,7 +9,7 @@ use Rattle.rows.proofs.views.against.Tie as tie
 
 module _ (c : tie.After-weight) where
   part : c .before .other-part .result * c .weight .result ≤ 71776119061217280
-  part = part-most (c .before .other-part .result) (c .weight .result) (c .before .other-part .ensures .1) (c .weight .ensures .1)
+  part = rw (c .weight .ensures) (part-most (c .before .other-part .result) (c .before .before .before .args .w) (c .before .other-part .ensures .1) (c .before .before .before .pre .on-line))
 
 shun-requires : tie.Need-shun-requires
 shun-requires c κs = c .pre
@@ -30,7 +30,7 @@ add-result : tie.Need-add-result
 add-result c = omega (arith, part c, c .before .before .shun .ensures .1)
 
 returns : tie.Need-returns
-returns c = rw (c .before .before .shun .ensures .0, c .before .other-part .ensures .0, c .weight .ensures .0) (against-word (c .before .before .before .args .w) (c .before .before .before .pre .small) (c .before .before .before .pre .lines))
+returns c = rw (c .before .before .shun .ensures .0, c .before .other-part .ensures .0, c .weight .ensures) (against-word (c .before .before .before .args .w) (c .before .before .before .pre .small) (c .before .before .before .pre .lines))
 
 pub against-spec : {M : Type 1} → statement M
 against-spec =

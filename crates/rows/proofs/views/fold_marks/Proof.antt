@@ -1,13 +1,13 @@
 -- `rows::views::fold_marks` meets its contract: it is the definition. Assumes nothing.
 use mathlib.Core.Path.{refl}
-use Rattle.rows.specs.Views.{folded}
-use Rattle.rows.proofs.Stretches.{folded-lt}
+use Rattle.rows.specs.Views.{sixBits}
+use Rattle.rows.proofs.Stretches.{six-bits-lt}
 use Rattle.rows.proofs.views.fold_marks.Statement.{statement}
 use Rattle.rows.proofs.views.fold_marks.Tie as tie
 
 returns : tie.Need-returns
-unfolding folded
-returns c = (refl, folded-lt (c .args .a))
+unfolding sixBits
+returns c = (refl, six-bits-lt (c .args .a))
 
 pub fold-marks-spec : {M : Type 1} → statement M
 fold-marks-spec = tie.close (tie.spec returns)

@@ -2,7 +2,7 @@
 use mathlib.Core.Path.{sym, _∙_, ap}
 use Prim.Native.Nat.{ℕ, _^_}
 use native.Mathlib.Omega.{arith}
-use Rattle.rows.specs.Views.{folded}
+use Rattle.rows.specs.Views.{sixBits}
 use Rattle.rows.proofs.Stretches.{kind-none, kind-word, shifted-bit}
 use borrow.Author.Needs.{needs}
 use Rattle.rows.proofs.views.kind.Statement.{statement}
@@ -23,7 +23,7 @@ shl-result c = search needs
 returns-2 : tie.Need-returns-2
 returns-2 c =
     rw (shifted-bit (c .fold-marks .result) (c .fold-marks .ensures .1))
-    (ap (λ (x : ℕ). 2 ^ x) (c .fold-marks .ensures .0 ∙ ap folded (c .before .mark-controls .ensures)) ∙ sym (kind-word (c .before .before .before .args .w) (c .before .before .before .pre .lines) (λ e. omega (arith, e, c .before .before .if1 .left))))
+    (ap (λ (x : ℕ). 2 ^ x) (c .fold-marks .ensures .0 ∙ ap sixBits (c .before .mark-controls .ensures)) ∙ sym (kind-word (c .before .before .before .args .w) (c .before .before .before .pre .lines) (λ e. omega (arith, e, c .before .before .if1 .left))))
 
 pub kind-spec : {M : Type 1} → statement M
 kind-spec =

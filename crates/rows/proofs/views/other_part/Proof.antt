@@ -3,28 +3,28 @@ use mathlib.Core.Path.{refl}
 use native.Mathlib.Omega.{arith}
 use borrow.Author.Tests.{ne-eqb}
 use Rattle.rules.specs.Places.{isC}
-use Rattle.rows.specs.Views.{otherPart}
+use Rattle.rows.specs.Views.{typeOf, otherPart}
 use Rattle.rows.proofs.views.other_part.Statement.{statement}
 use Rattle.rows.proofs.views.other_part.Tie as tie
 
 returns : tie.Need-returns
-unfolding otherPart isC
+unfolding otherPart typeOf isC
 returns c = rw (c .match .keys1) (refl, omega arith)
 
 returns-2 : tie.Need-returns-2
-unfolding otherPart isC
+unfolding otherPart typeOf isC
 returns-2 c = rw (c .match .keys2) (refl, omega arith)
 
 returns-3 : tie.Need-returns-3
-unfolding otherPart isC
+unfolding otherPart typeOf isC
 returns-3 c = rw (c .match .keys3) (refl, omega arith)
 
 returns-4 : tie.Need-returns-4
-unfolding otherPart isC
+unfolding otherPart typeOf isC
 returns-4 c = rw (c .match .keys4) (refl, omega arith)
 
 returns-5 : tie.Need-returns-5
-unfolding otherPart isC
+unfolding otherPart typeOf isC
 returns-5 c = rw (ne-eqb (c .before .args .o) 1 (λ e. omega (arith, c .match .rest)), ne-eqb (c .before .args .o) 2 (λ e. omega (arith, c .match .rest)), ne-eqb (c .before .args .o) 3 (λ e. omega (arith, c .match .rest)), ne-eqb (c .before .args .o) 4 (λ e. omega (arith, c .match .rest))) (refl, omega arith)
 
 pub other-part-spec : {M : Type 1} → statement M

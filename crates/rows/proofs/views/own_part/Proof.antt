@@ -3,32 +3,32 @@ use mathlib.Core.Path.{refl}
 use native.Mathlib.Omega.{arith}
 use borrow.Author.Tests.{ne-eqb}
 use Rattle.rules.specs.Places.{isC}
-use Rattle.rows.specs.Views.{ownPart}
+use Rattle.rows.specs.Views.{typeOf, ownPart}
 use Rattle.rows.proofs.views.own_part.Statement.{statement}
 use Rattle.rows.proofs.views.own_part.Tie as tie
 
 returns : tie.Need-returns
-unfolding ownPart isC
+unfolding ownPart typeOf isC
 returns c = rw (c .match .keys1) (refl, omega arith)
 
 returns-2 : tie.Need-returns-2
-unfolding ownPart isC
+unfolding ownPart typeOf isC
 returns-2 c = rw (c .match .keys2) (refl, omega arith)
 
 returns-3 : tie.Need-returns-3
-unfolding ownPart isC
+unfolding ownPart typeOf isC
 returns-3 c = rw (c .match .keys3) (refl, omega arith)
 
 returns-4 : tie.Need-returns-4
-unfolding ownPart isC
+unfolding ownPart typeOf isC
 returns-4 c = rw (c .match .keys4) (refl, omega arith)
 
 returns-5 : tie.Need-returns-5
-unfolding ownPart isC
+unfolding ownPart typeOf isC
 returns-5 c = rw (c .match .keys5) (refl, omega arith)
 
 returns-6 : tie.Need-returns-6
-unfolding ownPart isC
+unfolding ownPart typeOf isC
 returns-6 c = rw (ne-eqb (c .before .args .o) 0 (λ e. omega (arith, c .match .rest)), ne-eqb (c .before .args .o) 1 (λ e. omega (arith, c .match .rest)), ne-eqb (c .before .args .o) 2 (λ e. omega (arith, c .match .rest)), ne-eqb (c .before .args .o) 3 (λ e. omega (arith, c .match .rest)), ne-eqb (c .before .args .o) 4 (λ e. omega (arith, c .match .rest))) (refl, omega arith)
 
 pub own-part-spec : {M : Type 1} → statement M

@@ -3,12 +3,13 @@ use mathlib.Core.Path.{_≡_, refl}
 use Prim.Native.Nat.{_-_, _≤_}
 use native.Mathlib.Omega.{arith}
 use Rattle.ranges.proofs.Fills.{filled, Filling, filling-start, filling-length, filling-next}
+use Rattle.rows.specs.Views.{allKinds}
 use borrow.Author.Needs.{needs}
 use Rattle.rows.proofs.views.start_marks.Statement.{statement}
 use Rattle.rows.proofs.views.start_marks.Tie as tie
 
 abbrev Inv-loop : tie.InvT-loop
-Inv-loop marks₀ n k₀ marks k = (k ≤ n) × Filling (λ k. 18446744073709551615) marks₀ marks k
+Inv-loop marks₀ n k₀ marks k = (k ≤ n) × Filling (λ k. allKinds) marks₀ marks k
 
 abbrev μ-loop : tie.MeasureT-loop
 μ-loop marks₀ n k₀ marks k = n - k

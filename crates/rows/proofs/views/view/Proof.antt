@@ -9,7 +9,7 @@ use Rattle.rows.proofs.views.view.Tie as tie
 
 module _ (c : tie.After-weight) where
   part : c .before .own-part .result * c .weight .result ≤ 71776119061217280
-  part = part-most (c .before .own-part .result) (c .weight .result) (c .before .own-part .ensures .1) (c .weight .ensures .1)
+  part = rw (c .weight .ensures) (part-most (c .before .own-part .result) (c .before .before .before .args .w) (c .before .own-part .ensures .1) (c .before .before .before .pre .on-line))
 
 shun-requires : tie.Need-shun-requires
 shun-requires c κs = c .pre
@@ -27,7 +27,7 @@ add-result : tie.Need-add-result
 add-result c = omega (arith, part c, c .before .before .shun .ensures .1)
 
 returns : tie.Need-returns
-returns c = rw (c .before .before .shun .ensures .0, c .before .own-part .ensures .0, c .weight .ensures .0) (view-word (c .before .before .before .args .w) (c .before .before .before .pre .small) (c .before .before .before .pre .lines))
+returns c = rw (c .before .before .shun .ensures .0, c .before .own-part .ensures .0, c .weight .ensures) (view-word (c .before .before .before .args .w) (c .before .before .before .pre .small) (c .before .before .before .pre .lines))
 
 pub view-spec : {M : Type 1} → statement M
 view-spec =
