@@ -1,36 +1,18 @@
 // The lent buffer: one gate read, the gaps closed, and freed records cleared.
 ghost use mathlib.Core.Path.{_≡_};
 ghost use mathlib.Core.List.{_++_};
-ghost use Prim.Native.Nat.{ℕ, _+_, _-_, _*_, _≤_, _<_};
-ghost use lib.ListN.{length, getD, take, replicate};
-ghost use Rattle.gates.specs.Records.{gateAt};
+ghost use Prim.Native.Nat.{_+_, _-_, _*_, _≤_, _<_};
+ghost use lib.ListN.{length, take, replicate};
+ghost use Rattle.rules.specs.Tidying.{gate};
 ghost use Rattle.rows.specs.Buffers.{gatesIn, Holds, kept, Moved, Kept};
 use gates::Gate;
 
-// A control in front of those of the lines above.
-fn pack_under(low: u8, above: u16) -> u16
-    requires { ⌜ (low < 4) × (above < 4096) ⌝ }
-    ensures { λ r. ⌜ r ≡ low + 4 * above ⌝ }
+// Gate i of m. The records were checked, so it is read without a test.
+pub fn read_gate(b: &[u8], m: usize, i: usize) -> Gate
+    requires { ⌜ Holds (now b) (gatesIn (now b) m) × (i < m) ⌝ }
+    ensures { λ r. ⌜ r ≡ gate (gatesIn (now (b .entry)) m) i ⌝ }
 {
-    low as u16 + 4 * above
-}
-
-// Gate i. The records were checked, so they are read without a test.
-pub fn read_gate(b: &[u8], i: usize) -> Gate
-    requires { ⌜ (8 * i + 8 ≤ length (now b)) × ((k : ℕ) → k < 6 → getD (now b) (8 * i + 2 + k) 0 < 4) ⌝ }
-    ensures { λ r. ⌜ r ≡ gateAt (now (b .entry)) (8 * i) ⌝ }
-{
-    let at = 8 * i;
-    let upper = pack_under(b[at + 5], pack_under(b[at + 6], pack_under(b[at + 7], 0)));
-    let controls = pack_under(
-        b[at + 2],
-        pack_under(b[at + 3], pack_under(b[at + 4], upper)),
-    );
-    Gate {
-        operator: b[at],
-        target: b[at + 1],
-        controls,
-    }
+    gates::words::gate_of(super::views::word(b, m, i))
 }
 
 // Record p comes to stand at place q, which lies before it or is its own.

@@ -84,8 +84,8 @@ pub fn apply_rule(
     ensures { λ q. ⌜ Known (gatesIn (now (b .exit)) m) (now (far .exit)) × (q ≤ m) × Low (now (far .exit)) q ⌝ }
     ensures { λ _. ⌜ Reached (now (far .exit)) (now (reach .exit)) m × Marked (gatesIn (now (b .exit)) m) (now (marks .exit)) ⌝ }
 {
-    let g = rows::buffer::read_gate(b, i);
-    let h = rows::buffer::read_gate(b, j);
+    let g = rows::buffer::read_gate(b, m, i);
+    let h = rows::buffer::read_gate(b, m, j);
     if rules::fitting::cancels_pair(g, h) {
         return replace_both(b, far, reach, marks, m, i, j, leave_gap(), leave_gap());
     }

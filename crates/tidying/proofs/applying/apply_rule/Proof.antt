@@ -16,7 +16,7 @@ use Rattle.rows.specs.Buffers.{gatesIn, isGap, Holds, kept, rank}
 use Rattle.rows.specs.Rows.{Known, Low, Reached}
 use Rattle.rows.specs.Views.{Marked}
 use Rattle.rows.proofs.Gaps.{gate-real}
-use Rattle.rows.proofs.Buffers.{length-gates, gate-in, holds-fits, holds-gate, holds-lines, holds-as, stands-gate, stands-gap}
+use Rattle.rows.proofs.Buffers.{length-gates, holds-gate, holds-as, stands-gate, stands-gap}
 use Rattle.tidying.proofs.Firsts.{fits-real, ruled-none, ruled-one, ruled-two}
 use borrow.Author.Needs.{needs}
 use Rattle.tidying.proofs.applying.apply_rule.Statement.{statement}
@@ -70,10 +70,10 @@ module _ (s : tie.Start) where
 -- the records read as the pair
 module _ (c : tie.After-read-gate2) where
   first-is : c .before .before .read-gate .result ≡ first (c .before .before .before .before .before .before .before .before)
-  first-is = c .before .before .read-gate .ensures ∙ sym (gate-in (c .before .before .before .before .before .before .before .before .args .b .now) (c .before .before .before .before .before .before .before .before .args .m) (c .before .before .before .before .before .before .before .before .args .i) (c .before .before .before .before .before .before .before .before .pre .1 .0 .0))
+  first-is = c .before .before .read-gate .ensures
 
   second-is : c .read-gate2 .result ≡ second (c .before .before .before .before .before .before .before .before)
-  second-is = c .read-gate2 .ensures ∙ sym (gate-in (c .before .before .before .before .before .before .before .before .args .b .now) (c .before .before .before .before .before .before .before .before .args .m) (c .before .before .before .before .before .before .before .before .args .j) (rw (count (c .before .before .before .before .before .before .before .before)) at (j-inside (c .before .before .before .before .before .before .before .before))))
+  second-is = c .read-gate2 .ensures
 
   first-ok : IsGate 6 (c .before .before .read-gate .result)
   first-ok = rw first-is (first-gate (c .before .before .before .before .before .before .before .before))
@@ -116,10 +116,12 @@ module _ (c : tie.After-invert) where
   turned-ok = rw (c .invert .ensures) (inverse-gate _ _ (second-ok (c .before .before .before .before .before .before .before .before .before .before)))
 
 read-gate-requires : tie.Need-read-gate-requires
-read-gate-requires c κs = (holds-fits _ _ (c .before .before .before .before .before .pre .0) _ (i-inside (c .before .before .before .before .before)), holds-lines _ _ (c .before .before .before .before .before .pre .0) _ (i-inside (c .before .before .before .before .before)))
+read-gate-requires c κs = (c .before .before .before .before .before .pre .0, c .before .before .before .before .before .pre .1 .0 .0)
 
 read-gate-requires-2 : tie.Need-read-gate-requires-2
-read-gate-requires-2 c κs = (holds-fits _ _ (c .before .before .before .before .before .before .before .pre .0) _ (j-inside (c .before .before .before .before .before .before .before)), holds-lines _ _ (c .before .before .before .before .before .before .before .pre .0) _ (j-inside (c .before .before .before .before .before .before .before)))
+read-gate-requires-2 c κs =
+    let s = c .before .before .before .before .before .before .before in
+    (s .pre .0, rw (count s) at (j-inside s))
 
 cancels-pair-requires : tie.Need-cancels-pair-requires
 cancels-pair-requires c κs = search needs
