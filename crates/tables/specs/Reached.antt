@@ -12,6 +12,10 @@ use Rattle.tables.specs.Permutations.{Permutation}
 abbrev pub stands : List ℕ → ℕ → ℕ → Bool
 stands t q i = some (λ j. eqb (getD t j 0) q) 0 i
 
+-- the entries of t are numbers of its rows
+abbrev pub Within : List ℕ → Type 0
+Within t = (i : ℕ) → i < length t → getD t i 0 < length t
+
 -- v says of each value where it stands among the entries of t before entry i; it says 32,768 or more where the value does not stand there
 pub record Points (t v : List ℕ) (i : ℕ) : Type 0 where
   pub size : length v ≡ length t

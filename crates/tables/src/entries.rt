@@ -1,11 +1,11 @@
 // Passes over the entries of a table, one each.
 ghost use mathlib.Core.Path.{_≡_};
-ghost use mathlib.Core.Bool.{false, cond};
+ghost use mathlib.Core.Bool.{true, false, cond};
 ghost use Prim.Native.Nat.{ℕ, _≤_, _<_};
 ghost use lib.ListN.{length, getD, replicate};
 ghost use Rattle.digits.specs.Digits.{digit};
 ghost use Rattle.tables.specs.Tables.{firstLarge, firstRepeated};
-ghost use Rattle.tables.specs.Reached.{stands, Points};
+ghost use Rattle.tables.specs.Reached.{stands, Within, Points};
 
 // The larger of two numbers.
 fn larger(x: u16, y: u16) -> u16
@@ -44,18 +44,23 @@ pub fn values(table: &[u16]) -> u64
     bits
 }
 
-// The row of each value goes to the value's place; values that do not stand in the table keep 65,535.
-pub fn invert(table: &[u16], inverse: &mut [u16])
-    requires { ⌜ ((i : ℕ) → i < length (now table) → getD (now table) i 0 < length (now table)) ⌝ }
+// The row of each value goes to the value's place; values that do not stand in the table keep 65,535. Says whether every entry has a place.
+pub fn invert(table: &[u16], inverse: &mut [u16]) -> bool
     requires { ⌜ length (now table) ≤ 729 ⌝ }
     requires { ⌜ now inverse ≡ replicate (length (now table)) 65535 ⌝ }
-    ensures { λ _. ⌜ Points (now (table .entry)) (now (inverse .exit)) (length (now (table .entry))) ⌝ }
+    ensures { λ r. ⌜ (r ≡ true → Within (now (table .entry)) × Points (now (table .entry)) (now (inverse .exit)) (length (now (table .entry)))) ⌝ }
+    ensures { λ r. ⌜ (r ≡ false → Within (now (table .entry)) → ⊥) ⌝ }
 {
     let mut i: usize = 0;
     while i < table.len() {
-        inverse[table[i] as usize] = i as u16;
+        let x = table[i] as usize;
+        if inverse.len() <= x {
+            return false;
+        }
+        inverse[x] = i as u16;
         i += 1;
     }
+    true
 }
 
 // 1 for a number from 32,768 up, and 0 for one below.

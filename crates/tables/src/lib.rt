@@ -54,7 +54,7 @@ fn searched(lines: u8, table: &[u16]) -> Checked
 }
 
 // Whether the table is a permutation. If so, its inverse is left in the lent array, which comes with 65,535 everywhere.
-fn is_inverted(n: usize, table: &[u16], inverse: &mut [u16]) -> bool
+pub fn is_inverted(n: usize, table: &[u16], inverse: &mut [u16]) -> bool
     requires { ⌜ n ≤ 6 ⌝ }
     requires { ⌜ now inverse ≡ replicate (3 ^ n) 65535 ⌝ }
     ensures { λ r. ⌜ (r ≡ true → Inverted n (now (table .entry)) (now (inverse .exit))) × (r ≡ false → Permutation 3 n (now (table .entry)) → ⊥) ⌝ }
@@ -62,24 +62,10 @@ fn is_inverted(n: usize, table: &[u16], inverse: &mut [u16]) -> bool
     if table.len() != inverse.len() {
         return false;
     }
-    if table.len() <= entries::largest(table) as usize {
+    if !entries::invert(table, inverse) {
         return false;
     }
-    entries::invert(table, inverse);
     entries::unreached(inverse) == 0
-}
-
-// The check of a table, which leaves the inverse of an accepted one in the lent array.
-pub fn check_inverting(lines: u8, table: &[u16], inverse: &mut [u16]) -> Checked
-    requires { ⌜ linesOk lines ≡ true ⌝ }
-    requires { ⌜ now inverse ≡ replicate (3 ^ lines) 65535 ⌝ }
-    ensures { λ r. ⌜ checkedAs r ≡ checkTableAnswer lines (now (table .entry)) ⌝ }
-    ensures { λ r. ⌜ (checkedAs r ≡ accepted [] → Inverted lines (now (table .entry)) (now (inverse .exit))) ⌝ }
-{
-    if is_inverted(lines as usize, table, inverse) {
-        return Checked::Accepted;
-    }
-    searched(lines, table)
 }
 
 // Whether a table of at most 27 entries is a permutation: whether `all`, which has a bit for each of its patterns, is the number of its values.
