@@ -2,7 +2,7 @@
 -- Everything rests on how the two go over to p / r: `digit-zero`, `digit-suc`, `put-zero`, `put-suc`. Assumes nothing.
 use mathlib.Core.Path.{_≡_, refl, sym, ap, _∙_}
 use Prim.Native.Nat.{ℕ, zero, suc, _+_, _-_, _*_, _/_, _%_, _^_, _≤_, _<_}
-use native.Mathlib.Nat.{pow-zero, pow-suc, pow-succ', pow-le-pow-right, div-one, div-div-eq-div-mul, div-eq-of-lt, div-lt-iff-lt-mul, div-mul-le-self, add-mul-div-left, add-mul-mod-self-left, mod-eq-of-lt, mod-lt, mod-le, mod-add-div, zero-add, zero-mod, mul-one, mul-add, mul-suc, mul-left-comm, mul-assoc, mul-le-mul-left, mul-le-mul-right, le-trans, lt-of-lt-of-le}
+use native.Mathlib.Nat.{pow-zero, pow-suc, pow-succ', pow-le-pow-right, div-one, div-div-eq-div-mul, div-eq-of-lt, div-lt-iff-lt-mul, div-mul-le-self, add-mul-div-left, add-mul-mod-self-left, mod-eq-of-lt, mod-lt, mod-le, mod-add-div, add-zero, zero-add, zero-mod, mul-one, mul-add, mul-suc, mul-left-comm, mul-assoc, mul-le-mul-left, mul-le-mul-right, le-trans, lt-of-lt-of-le}
 use native.Mathlib.Numerals.{add-one}
 use lib.Pow.{pow-add}
 use native.Mathlib.Omega.{arith}
@@ -137,6 +137,13 @@ shift-digit r k p q e = rw e
 
 pub shift-next : (r k p q : ℕ) → q ≡ p / r ^ k → q / r ≡ p / r ^ (k + 1)
 shift-next r k p q e = rw (e, add-one, pow-suc) (div-div-eq-div-mul p (r ^ k) r)
+
+-- and so are all digits from there up
+pub shift-digits : (r k m p q : ℕ) → q ≡ p / r ^ k → digit r m q ≡ digit r (k + m) p
+shift-digits r k zero p q e = digit-zero r q ∙ shift-digit r k p q e ∙ ap (λ (j : ℕ). digit r j p) (sym (add-zero k))
+shift-digits r k (suc m) p q e =
+    let next : k + 1 + m ≡ k + suc m = omega arith in
+    digit-suc r m q ∙ shift-digits r (k + 1) m p (q / r) (shift-next r k p q e) ∙ ap (λ (j : ℕ). digit r j p) next
 
 -- ---- two numbers in one: lo below, hi from digit m up
 

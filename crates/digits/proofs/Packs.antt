@@ -1,8 +1,9 @@
 -- The laws of `pack`: its digits are those packed, it has no others, and the digits of a number packed again give the number.
 -- They rest on `pack-front`, the lowest digit taken off. Assumes nothing.
 use mathlib.Core.Path.{_≡_, refl, sym, ap, _∙_}
-use Prim.Native.Nat.{ℕ, zero, suc, _+_, _*_, _^_, _<_}
-use native.Mathlib.Nat.{zero-add, add-zero, pow-zero, pow-succ', mul-add, mul-zero, mul-one, zero-mul, mul-left-comm}
+use Prim.Native.Nat.{ℕ, zero, suc, _+_, _*_, _^_, _≤_, _<_}
+use native.Mathlib.Nat.{zero-add, add-zero, add-mul, pow-zero, pow-succ', mul-add, mul-zero, mul-one, zero-mul, mul-left-comm, mul-le-mul-right}
+use native.Mathlib.Decide.{ℕ-discrete}
 use native.Mathlib.Omega.{arith}
 use Rattle.ranges.specs.Ranges.{sum}
 use Rattle.ranges.proofs.Sums.{sum-snoc, sum-ext}
@@ -59,3 +60,22 @@ module _ (r : ℕ) (f : ℕ → ℕ) (m : ℕ) (small : (k : ℕ) → k < m → 
 
   pub free-else : (k : ℕ) → k < m → (k ≡ t → ⊥) → digit r k (pack r f m + d * r ^ t) ≡ f k
   free-else k lk ne = ap (digit r k) free-put ∙ digit-put-other r k t (pack r f m) d ld ne ∙ digit-pack r f m small k lk
+
+-- ---- sums, a digit replaced, a bound
+
+pub pack-add : (r : ℕ) (f g : ℕ → ℕ) (m : ℕ) → pack r (λ k. f k + g k) m ≡ pack r f m + pack r g m
+pack-add r f g zero = rw (pack-zero, pack-zero, pack-zero)
+pack-add r f g (suc m) = rw (pack-suc, pack-suc, pack-suc, pack-add r f g m, add-mul (f m) (g m) (r ^ m)) (omega arith)
+
+-- one digit replaced
+pub pack-replaced : (r : ℕ) (f g : ℕ → ℕ) (k : ℕ) → ((j : ℕ) → (j ≡ k → ⊥) → f j ≡ g j) → (m : ℕ) → k < m → pack r f m + g k * r ^ k ≡ pack r g m + f k * r ^ k
+pack-replaced r f g k h zero lt = absurd (omega arith)
+pack-replaced r f g k h (suc m) lt = rw (pack-suc, pack-suc) (go (pack-replaced r f g k h m) (ℕ-discrete m k))
+  where
+    go : (k < m → pack r f m + g k * r ^ k ≡ pack r g m + f k * r ^ k) → Dec (m ≡ k) → pack r f m + f m * r ^ m + g k * r ^ k ≡ pack r g m + g m * r ^ m + f k * r ^ k
+    go below (yes e) = rw (e, pack-ext r f g k (λ j l. h j (λ q. omega arith))) (omega arith)
+    go below (no ne) = rw (h m ne) (omega (arith, below (omega arith)))
+
+-- a bound by the highest digit
+pub pack-below : (r : ℕ) (f : ℕ → ℕ) (m c : ℕ) → ((k : ℕ) → k < m → f k < r) → f m ≤ c → pack r f (suc m) < r ^ m + c * r ^ m
+pack-below r f m c h le = rw pack-suc (omega (arith, pack-lt r f m h, mul-le-mul-right (r ^ m) le))

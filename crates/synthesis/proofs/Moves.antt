@@ -1,13 +1,15 @@
--- The tables as the code moves them are those of the procedure: one digit (`step-not`, `step-gate`), a row digit by digit (`row-none`, `row-more`, `row-past`),
+-- The tables as the code moves them are those of the procedure: one digit (`held-step`), a row digit by digit (`row-none`, `row-more`, `row-rest`),
 -- the rows one by one (`rows-none`, `rows-more`), with the inverse kept beside the table. Assumes nothing.
 use mathlib.Core.Path.{_≡_, refl, sym, ap, _∙_}
 use mathlib.Core.List.{List, [], _∷_, _++_, map}
 use mathlib.Core.Logic.{_⊎_, ⊎-elim}
-use Prim.Native.Nat.{ℕ, zero, suc, _+_, _^_, _≤_, _<_}
+use Prim.Native.Nat.{ℕ, zero, suc, _+_, _-_, _^_, _≤_, _<_}
+use native.Mathlib.Nat.{zero-add, add-zero, add-suc}
 use native.Mathlib.Numerals.{add-one}
+use native.Mathlib.Decide.{ℕ-discrete}
 use native.Mathlib.Omega.{arith}
 use lib.ListN.{length, getD, set, length-set, length-append}
-use lib.Seq.{getD-set-same, getD-set-other, set-getD, set-set, set-comm}
+use lib.Seq.{getD-set-same, set-getD, set-set, set-comm}
 use Rattle.ranges.proofs.Counts.{here-or-later, lt-or-le}
 use Rattle.digits.specs.Digits.{digit, put}
 use Rattle.digits.proofs.Digits.{digit-lt, digit-high, digit-put-same, put-same}
@@ -107,54 +109,75 @@ module _ (n i k a b : ℕ) (t v : List ℕ) (w : Paired n t v) (below : i < 3 ^ 
                 };
           })
 
--- ---- the same with the row's entry in hand: table and inverse are right once it is stored
+-- ---- the same with the row's entry in hand: the table is right once it is stored
 
-module _ (n i a : ℕ) (t v : List ℕ) (w : Paired n (set t i a) (set v a i)) where
+module _ (n i a : ℕ) (t v : List ℕ) (w : Paired n (set t i a) v) where
   pub held-sized : Sized n t v
   held-sized =
-      let s = sized n (set t i a) (set v a i) w in
-      record { few = s .few; table = sym (length-set t i a) ∙ s .table; inverse = sym (length-set v a i) ∙ s .inverse }
+      let s = sized n (set t i a) v w in
+      record { few = s .few; table = sym (length-set t i a) ∙ s .table; inverse = s .inverse }
 
-  pub held-at : i < 3 ^ n → a ≡ getD (set t i a) i 0
-  held-at below = sym (getD-set-same t i a 0 (omega (arith, held-sized .table)))
+  module _ (below : i < 3 ^ n) where
+    pub held-at : a ≡ getD (set t i a) i 0
+    held-at = sym (getD-set-same t i a 0 (omega (arith, held-sized .table)))
 
-  pub held-lt : i < 3 ^ n → a < 3 ^ n
-  held-lt below = rw (held-at below) (w .perm .within i below)
+    pub held-lt : a < 3 ^ n
+    held-lt = rw held-at (w .perm .within i below)
 
-module _ (n i k a b : ℕ) (t v : List ℕ) (w : Paired n (set t i a) (set v a i)) (below : i < 3 ^ n) (eb : b ≡ put 3 k a (digit 3 k i)) where
-  abbrev entry : a ≡ getD (set t i a) i 0
-  entry = held-at n i a t v w below
+    held-back : getD v a 0 ≡ i
+    held-back = rw held-at (rw (w .inverse) (inverse-entry 3 n (set t i a) three-pos (w .perm) i below))
 
-  pub held-not : a ≡ b → Reached n (stepFrom n i k (set t i a)) (set t i b) (set v b i)
-  held-not e = rw (← e) (step-not n i k a b (set t i a) (set v a i) w below entry eb e)
+    -- b is a with the digit of i on line k, and y the row that holds b
+    module _ (k b y : ℕ) (eb : b ≡ put 3 k a (digit 3 k i)) (ey : y ≡ getD v b 0) where
+      -- where nothing changes, the row is i and every store leaves what was there
+      same-row : a ≡ b → y ≡ i
+      same-row e = ey ∙ ap (λ (x : ℕ). getD v x 0) (sym e) ∙ held-back
 
-  module _ (ne : a ≡ b → ⊥) (y : ℕ) (ey : y ≡ getD v b 0) where
-    pub held-row : y ≡ getD (set v a i) b 0
-    held-row = ey ∙ sym (getD-set-other v a b i 0 (λ e. ne (sym e)))
+      pub held-new : b < 3 ^ n
+      held-new = go (ℕ-discrete a b)
+        where
+          go : Dec (a ≡ b) → b < 3 ^ n
+          go (yes e) = rw (← e) held-lt
+          go (no ne) = new-lt n i k a b (set t i a) v w below held-at eb ne y ey
 
-    pub held-gate : Reached n (stepFrom n i k (set t i a)) (set (set t y a) i b) (set (set v a y) b i)
-    held-gate =
-        let apart : i ≡ y → ⊥ = λ e. other-apart n i k a b (set t i a) (set v a i) w below entry eb ne y held-row (sym e) in
-        let same : set (set (set t i a) i b) y a ≡ set (set t y a) i b = ap (λ (l : List ℕ). set l y a) (set-set t i a b) ∙ set-comm t i y b a apart in
-        let back : set (set (set v a i) a y) b i ≡ set (set v a y) b i = ap (λ (l : List ℕ). set l b i) (set-set v a i y) in
-        rw (same, back) at (step-gate n i k a b (set t i a) (set v a i) w below entry eb ne y held-row)
+      pub held-row : y < 3 ^ n
+      held-row = go (ℕ-discrete a b)
+        where
+          go : Dec (a ≡ b) → y < 3 ^ n
+          go (yes e) = rw (same-row e) below
+          go (no ne) = other-row n i k a b (set t i a) v w below held-at eb ne y ey
+
+      pub held-step : Reached n (stepFrom n i k (set t i a)) (set (set t y a) i b) (set (set v a y) b i)
+      held-step = go (ℕ-discrete a b)
+        where
+          go : Dec (a ≡ b) → Reached n (stepFrom n i k (set t i a)) (set (set t y a) i b) (set (set v a y) b i)
+          go (yes e) =
+              let back : set v a i ≡ v = rw held-back at (set-getD v a 0) in
+              let stays : set (set v a i) a i ≡ v = set-set v a i i ∙ back in
+              rw (← e, same-row e, set-set t i a a, stays) (step-not n i k a b (set t i a) v w below held-at eb e)
+          go (no ne) =
+              let apart : i ≡ y → ⊥ = λ e. other-apart n i k a b (set t i a) v w below held-at eb ne y ey (sym e) in
+              let same : set (set (set t i a) i b) y a ≡ set (set t y a) i b = ap (λ (l : List ℕ). set l y a) (set-set t i a b) ∙ set-comm t i y b a apart in
+              rw same at (step-gate n i k a b (set t i a) v w below held-at eb ne y ey)
 
 -- ---- a row, digit by digit
 
--- nothing is found in a row whose entry stands right already
-pub row-settled : (n i : ℕ) (t : List ℕ) → getD t i 0 ≡ i → (m : ℕ) → rowFrom n i m t ≡ begun t
+-- nothing more is found in a row whose entry has the digits of i from line k up
+pub row-rest : (n i k : ℕ) (t : List ℕ) → ((j : ℕ) → k ≤ j → digit 3 j (getD (rowFrom n i k t .table) i 0) ≡ digit 3 j i) → (m : ℕ) → rowFrom n i (k + m) t ≡ rowFrom n i k t
 unfolding rowSteps
-row-settled n i t e zero = refl
-row-settled n i t e (suc m) =
-    ap (digitStep 3 applied gateFor n i m) (row-settled n i t e m) ∙ step-same 3 applied gateFor n i m (begun t) (ap (digit 3 m) e)
+row-rest n i k t e zero = ap (λ (m : ℕ). rowFrom n i m t) (add-zero k)
+row-rest n i k t e (suc m) =
+    ap (λ (m : ℕ). rowFrom n i m t) (add-suc k m)
+    ∙ ap (digitStep 3 applied gateFor n i (k + m)) (row-rest n i k t e m) ∙ step-same 3 applied gateFor n i (k + m) (rowFrom n i k t) (e (k + m) (omega arith))
 
-pub row-none : (n i : ℕ) (t v : List ℕ) → Paired n t v → i < 3 ^ n
-    → (rowFrom n i 0 t .found ≡ []) × Reached n (rowFrom n i 0 t) (set t i (getD t i 0)) (set v (getD t i 0) i)
+-- nor is anything in one whose entry stands right already
+row-right : (n i : ℕ) (t : List ℕ) → getD t i 0 ≡ i → (m : ℕ) → rowFrom n i m t ≡ begun t
 unfolding rowSteps
-row-none n i t v w below =
-    let e : getD v (getD t i 0) 0 ≡ i = rw (w .inverse) (inverse-entry 3 n t three-pos (w .perm) i below) in
-    let back : set v (getD t i 0) i ≡ v = rw e at (set-getD v (getD t i 0) 0) in
-    (refl, rw (set-getD t i 0, back) (record { table = refl; pair = w }))
+row-right n i t e m = rw zero-add at (row-rest n i 0 t (λ j le. ap (digit 3 j) e) m)
+
+pub row-none : (n i : ℕ) (t v : List ℕ) → Paired n t v → (rowFrom n i 0 t .found ≡ []) × Reached n (rowFrom n i 0 t) (set t i (getD t i 0)) v
+unfolding rowSteps
+row-none n i t v w = (refl, rw (set-getD t i 0) (record { table = refl; pair = w }))
 
 module _ (n i k : ℕ) (t t′ v′ : List ℕ) (at : Reached n (rowFrom n i k t) t′ v′) where
   pub row-found : rowFrom n i (k + 1) t .found ≡ stepFrom n i k t′ .found ++ rowFrom n i k t .found
@@ -182,14 +205,23 @@ module _ (n i k : ℕ) (t t′ v′ : List ℕ) (at : Reached n (rowFrom n i k t
             (rw (← at .table) (digit-high 3 n k (getD t′ i 0) three-pos (at .pair .perm .within i below) l ∙ sym (digit-high 3 n k i three-pos below l)))
             ∙ before l)
 
-    -- the next gate of a row that fits has its place before e
-    pub row-room : (e end : ℕ) → e + length (rowFrom n i k t .found) ≡ end → length (rowFrom n i n t .found) ≤ end → length (stepFrom n i k t′ .found) ≤ e
-    row-room e end q fits =
-        omega (arith, ap length row-found ∙ length-append (stepFrom n i k t′ .found) (rowFrom n i k t .found), within (lt-or-le k n))
+    -- where a row leaves a place free, its first lines do
+    pub row-free : (e end : ℕ) → e + length (rowFrom n i k t .found) ≡ end → length (rowFrom n i n t .found) < end → 1 ≤ e
+    row-free e end q fits = omega (arith, within (lt-or-le k n))
       where
-        within : (k < n) ⊎ (n ≤ k) → length (rowFrom n i (k + 1) t .found) ≤ length (rowFrom n i n t .found)
-        within (_⊎_.inl lt) = row-grows 3 applied gateFor n i (begun t) (k + 1) n (omega arith)
-        within (_⊎_.inr le) = rw (row-past (omega arith)) (omega arith)
+        within : (k < n) ⊎ (n ≤ k) → length (rowFrom n i k t .found) ≤ length (rowFrom n i n t .found)
+        within (_⊎_.inl lt) = row-grows 3 applied gateFor n i (begun t) k n (omega arith)
+        within (_⊎_.inr le) = rw (before le) (omega arith)
+
+    -- a row is done where its entry has the digits of i from there up
+    pub row-done : ((j : ℕ) → k ≤ j → digit 3 j (getD t′ i 0) ≡ digit 3 j i) → rowFrom n i k t ≡ rowFrom n i n t
+    row-done e = go (lt-or-le k n)
+      where
+        go : (k < n) ⊎ (n ≤ k) → rowFrom n i k t ≡ rowFrom n i n t
+        go (_⊎_.inl lt) =
+            let whole : k + (n - k) ≡ n = omega arith in
+            rw whole at (sym (row-rest n i k t (rw (at .table) at e) (n - k)))
+        go (_⊎_.inr le) = before le
 
 -- ---- the rows, one by one
 
@@ -209,7 +241,7 @@ module _ (n i : ℕ) (t t′ v′ : List ℕ) (at : Reached n (rowsFrom n i t) t
   pub rows-found : rowsFrom n (i + 1) t .found ≡ rowFrom n i n t′ .found ++ rowsFrom n i t .found
   rows-found = rw (add-one i, at .table) (ap (λ (z : State Gate). z .found) (rows-next 3 applied gateFor n i (begun t)))
 
-  pub rows-room : (e total : ℕ) → i < 3 ^ n → length (synthesized n t) ≤ total → e + length (rowsFrom n i t .found) ≡ total → length (rowFrom n i n t′ .found) ≤ e
+  pub rows-room : (e total : ℕ) → i < 3 ^ n → length (synthesized n t) < total → e + length (rowsFrom n i t .found) ≡ total → length (rowFrom n i n t′ .found) < e
   rows-room e total lt fits q =
       omega (arith, ap length rows-found ∙ length-append (rowFrom n i n t′ .found) (rowsFrom n i t .found), rows-within n (i + 1) t (omega arith))
 
@@ -227,7 +259,7 @@ module _ (n : ℕ) (t : List ℕ) (size : length t ≡ 3 ^ n) (right : (p : ℕ)
   rows-right : (i : ℕ) → i ≤ 3 ^ n → rowsFrom n i t ≡ begun t
   unfolding rows
   rows-right zero le = refl
-  rows-right (suc i) le = ap (rowSteps 3 applied gateFor n i n) (rows-right i (omega arith)) ∙ row-settled n i t (right i (omega (arith, size))) n
+  rows-right (suc i) le = ap (rowSteps 3 applied gateFor n i n) (rows-right i (omega arith)) ∙ row-right n i t (right i (omega (arith, size))) n
 
   pub identity-none : synthesized n t ≡ []
   identity-none = sym (rows-all n (3 ^ n) t refl) ∙ ap (λ (z : State Gate). z .found) (rows-right (3 ^ n) (omega arith))

@@ -1,45 +1,23 @@
 -- Patterns spread out over bytes: what stands on a line (`spread-digit`), a pattern from one with a digit less (`spread-more`), and the word of the gate for a
--- digit of a row (`gate-word`). They rest on three laws of `pack`, which belong to the crate digits. Assumes nothing.
+-- digit of a row (`gate-word`). Assumes nothing.
 use mathlib.Core.Path.{_≡_, refl, sym, ap, _∙_}
 use mathlib.Core.Bool.{Bool, true, false, cond}
 use mathlib.Core.Logic.{_⊎_}
 use Prim.Native.Nat.{ℕ, zero, suc, _+_, _-_, _*_, _/_, _%_, _^_, _≤_, _<_}
-use native.Mathlib.Nat.{add-mul, le-refl, mul-le-mul-right, pow-le-pow-right}
-use native.Mathlib.Decide.{ℕ-discrete}
+use native.Mathlib.Nat.{le-refl, pow-le-pow-right, div-eq-of-lt}
 use native.Mathlib.Omega.{arith}
 use lib.Dec.{leb}
 use borrow.Author.Tests.{le-leb, lt-leb}
 use Rattle.ranges.specs.Ranges.{sum}
 use Rattle.ranges.proofs.Counts.{lt-or-le}
 use Rattle.digits.specs.Digits.{digit, pack}
-use Rattle.digits.proofs.Digits.{digit-zero, digit-suc, digit-lt, digit-le, digit-high, div-lt-pow}
-use Rattle.digits.proofs.Packs.{pack-zero, pack-suc, pack-front, pack-ext, pack-lt, digit-pack}
+use Rattle.digits.proofs.Digits.{digit-zero, digit-suc, digit-lt, digit-le, digit-high, div-lt-pow, shift-digits}
+use Rattle.digits.proofs.Packs.{pack-suc, pack-front, pack-ext, digit-pack, pack-add, pack-replaced, pack-below}
 use Rattle.digits.proofs.Sizes.{three-pos}
 use Rattle.gates.specs.Gates.{control}
 use Rattle.synthesis.specs.Synthesis.{exchanger, controlFor, gateFor}
 use Rattle.synthesis.specs.Steps.{spreadOf, noneFrom, Facing, wordOf}
 use Rattle.synthesis.proofs.Controls.{control-target, control-past, control-line, gate-control}
-
--- ---- packs: these laws belong to the crate digits
-
-pack-add : (r : ℕ) (f g : ℕ → ℕ) (m : ℕ) → pack r (λ k. f k + g k) m ≡ pack r f m + pack r g m
-pack-add r f g zero = rw (pack-zero, pack-zero, pack-zero)
-pack-add r f g (suc m) = rw (pack-suc, pack-suc, pack-suc, pack-add r f g m, add-mul (f m) (g m) (r ^ m)) (omega arith)
-
--- one digit replaced
-pack-replaced : (r : ℕ) (f g : ℕ → ℕ) (k : ℕ) → ((j : ℕ) → (j ≡ k → ⊥) → f j ≡ g j) → (m : ℕ) → k < m → pack r f m + g k * r ^ k ≡ pack r g m + f k * r ^ k
-pack-replaced r f g k h zero lt = absurd (omega arith)
-pack-replaced r f g k h (suc m) lt = rw (pack-suc, pack-suc) (go (pack-replaced r f g k h m) (ℕ-discrete m k))
-  where
-    go : (k < m → pack r f m + g k * r ^ k ≡ pack r g m + f k * r ^ k) → Dec (m ≡ k) → pack r f m + f m * r ^ m + g k * r ^ k ≡ pack r g m + g m * r ^ m + f k * r ^ k
-    go below (yes e) = rw (e, pack-ext r f g k (λ j l. h j (λ q. omega arith))) (omega arith)
-    go below (no ne) = rw (h m ne) (omega (arith, below (omega arith)))
-
--- a bound by the highest digit
-pack-below : (r : ℕ) (f : ℕ → ℕ) (m c : ℕ) → ((k : ℕ) → k < m → f k < r) → f m ≤ c → pack r f (suc m) < r ^ m + c * r ^ m
-pack-below r f m c h le = rw pack-suc (omega (arith, pack-lt r f m h, mul-le-mul-right (r ^ m) le))
-
--- ---- patterns
 
 byte-lt : (a j : ℕ) → j < 6 → digit 3 j a < 256
 byte-lt a j lt = omega (arith, digit-lt 3 j a three-pos)
@@ -64,6 +42,25 @@ spread-more p lt =
 pub spread-small : (a : ℕ) → spreadOf a < 3 * 256 ^ 5
 unfolding spreadOf
 spread-small a = pack-below 256 (λ j. digit 3 j a) 5 2 (λ j l. byte-lt a j (omega arith)) (omega (arith, digit-lt 3 5 a three-pos))
+
+-- from line 6 up nothing is left of it
+pub spread-past : (a k : ℕ) → 6 ≤ k → spreadOf a / 256 ^ k ≡ 0
+spread-past a k le =
+    let weight : 256 ^ 6 ≤ 256 ^ k = pow-le-pow-right {n = 256} (omega arith) {i = 6} {j = k} le in
+    div-eq-of-lt (omega (arith, spread-small a))
+
+-- where what is left from line k up is the same, the digits are
+pub spread-rest : (a b k : ℕ) → a < 729 → b < 729 → spreadOf a / 256 ^ k ≡ spreadOf b / 256 ^ k → (j : ℕ) → k ≤ j → digit 3 j a ≡ digit 3 j b
+spread-rest a b k la lb e j le = go (lt-or-le j 6)
+  where
+    at : (p : ℕ) → j < 6 → digit 256 (j - k) (spreadOf p / 256 ^ k) ≡ digit 3 j p
+    at p lt =
+        let whole : k + (j - k) ≡ j = omega arith in
+        shift-digits 256 k (j - k) (spreadOf p) (spreadOf p / 256 ^ k) refl ∙ ap (λ (i : ℕ). digit 256 i (spreadOf p)) whole ∙ spread-digit p j lt
+
+    go : (j < 6) ⊎ (6 ≤ j) → digit 3 j a ≡ digit 3 j b
+    go (_⊎_.inl lt) = sym (at a lt) ∙ ap (digit 256 (j - k)) e ∙ at b lt
+    go (_⊎_.inr high) = digit-high 3 6 j a three-pos la high ∙ sym (digit-high 3 6 j b three-pos lb high)
 
 pub none-small : (n : ℕ) → noneFrom n < 4 * 256 ^ 5
 unfolding noneFrom

@@ -1,18 +1,18 @@
 -- What the inner functions of synthesis do, in the words of the procedure.
-use Prim.Native.Nat.{ℕ, _+_, _-_, _*_, _^_, _≤_, _<_}
+use Prim.Native.Nat.{ℕ, _+_, _-_, _*_, _/_, _^_, _≤_, _<_}
 use mathlib.Core.Path.{_≡_}
-use mathlib.Core.Bool.{cond}
+use mathlib.Core.Bool.{true, cond}
 use mathlib.Core.List.{List, [], _∷_, _++_, map}
 use lib.Dec.{leb}
-use lib.ListN.{length, getD}
-use lib.Seq.{sets}
+use lib.ListN.{length, getD, drop}
 use Rattle.ranges.specs.Ranges.{span}
 use Rattle.digits.specs.Digits.{digit, pack}
+use Rattle.card.specs.Card.{Answer.accepted, linesOk}
 use Rattle.gates.specs.declared.Gate.{Gate}
 use Rattle.gates.specs.Gates.{control, applied}
 use Rattle.tables.specs.Permutations.{Permutation, inverseTable}
 use Rattle.procedure.specs.Procedure.{State, digitStep, rowSteps, rows}
-use Rattle.synthesis.specs.Synthesis.{gateFor}
+use Rattle.synthesis.specs.Synthesis.{gateFor, bound, synthesizeAnswer, synthesizeRoom}
 
 -- digit k of row i, the digits below k of row i, and the rows below i: each from the table t on, with no gate added before
 abbrev pub stepFrom : ℕ → ℕ → ℕ → List ℕ → State Gate
@@ -75,7 +75,20 @@ unfoldable pub bytesOfWords : List ℕ → List ℕ
 bytesOfWords [] = []
 bytesOfWords (w ∷ ws) = bytesOfWord w ++ bytesOfWords ws
 
--- the words of the gates stand from place e up to place e′ of ws′; all else is as in ws
+-- the words of the gates stand from place e up to place e′ of ws′; from there on it is as ws is, and what stands before e is no matter
 pub record Lays (gs : List Gate) (e e′ : ℕ) (ws ws′ : List ℕ) : Type 0 where
   pub count : e + length gs ≡ e′
-  pub words : ws′ ≡ sets ws e (map wordOf gs)
+  pub size : length ws′ ≡ length ws
+  pub words : drop e ws′ ≡ map wordOf gs ++ drop e′ ws
+
+-- ---- the call
+
+-- the call is refused: the lines, or the table, or else a room of so many bytes
+abbrev pub Unfit : ℕ → List ℕ → ℕ → Type 0
+Unfit n t room = linesOk n ≡ true → Permutation 3 n t → room / 8 < bound n
+
+-- r is the number of gates and room′ has them, or r is 65,535 or more, the call is refused and the room is left
+pub record Wrote (n : ℕ) (t room : List ℕ) (r : ℕ) (room′ : List ℕ) : Type 0 where
+  pub gates : r < 65535 → accepted (r ∷ []) ≡ synthesizeAnswer n t (length room)
+  pub unfit : 65535 ≤ r → Unfit n t (length room)
+  pub left : room′ ≡ synthesizeRoom n t room

@@ -6,6 +6,7 @@ ghost use lib.ListN.{length, replicate};
 ghost use Rattle.card.specs.Card.{linesOk};
 ghost use Rattle.cascades.specs.Answers.{countedAs};
 ghost use Rattle.synthesis.specs.Synthesis.{bound, synthesizeAnswer, synthesizeRoom};
+ghost use Rattle.synthesis.specs.Steps.{Unfit, Wrote};
 
 mod making;
 mod passes;
@@ -25,50 +26,89 @@ fn room_asked(n: usize) -> usize
     n * size - (size - 1) / 2
 }
 
+// What the functions that write a cascade answer where they wrote none, since the call is refused: no cascade has so many gates.
+// A plain number stays in a register. An answer of more parts would go through memory, and on one or two lines that takes longer than the work.
+const NONE: usize = 65535;
+
 // The cascade of a table of two lines or more, made with the help of a lent array that comes with 65,535 everywhere and takes the table's inverse.
-fn synthesize_by(lines: u8, table: &[u16], inverse: &mut [u16], room: &mut [u8]) -> Counted
+fn write_by(lines: u8, table: &[u16], inverse: &mut [u16], room: &mut [u8]) -> usize
     requires { ⌜ linesOk lines ≡ true ⌝ }
     requires { ⌜ 2 ≤ lines ⌝ }
     requires { ⌜ now inverse ≡ replicate (3 ^ lines) 65535 ⌝ }
-    ensures { λ r. ⌜ countedAs r ≡ synthesizeAnswer lines (now (table .entry)) (length (now (room .entry))) ⌝ }
-    ensures { λ _. ⌜ now (room .exit) ≡ synthesizeRoom lines (now (table .entry)) (now (room .entry)) ⌝ }
+    ensures { λ r. ⌜ Wrote lines (now (table .entry)) (now (room .entry)) r (now (room .exit)) ⌝ }
 {
-    if let Checked::Refused { number, place } = tables::check_inverting(lines, table, inverse) {
-        return Counted::Refused {
-            number: number,
-            place: place,
-        };
-    }
     let n = lines as usize;
-    let asked = room_asked(n);
-    if room.len() / 8 < asked {
-        return Counted::Refused {
-            number: 5,
-            place: asked,
-        };
+    if !tables::is_inverted(n, table, inverse) {
+        return NONE;
     }
-    let gates = passes::write_gates(n, table, inverse, room);
-    Counted::Gates(gates)
+    if room.len() / 8 < room_asked(n) {
+        return NONE;
+    }
+    passes::write_gates(n, table, inverse, room)
 }
 
 // The cascade of a table of one line. Its six tables are told apart by two entries, and need no arrays.
-fn synthesize_one_line(table: &[u16], room: &mut [u8]) -> Counted
-    ensures { λ r. ⌜ countedAs r ≡ synthesizeAnswer 1 (now (table .entry)) (length (now (room .entry))) ⌝ }
-    ensures { λ _. ⌜ now (room .exit) ≡ synthesizeRoom 1 (now (table .entry)) (now (room .entry)) ⌝ }
+fn write_one_line(table: &[u16], room: &mut [u8]) -> usize
+    ensures { λ r. ⌜ Wrote 1 (now (table .entry)) (now (room .entry)) r (now (room .exit)) ⌝ }
 {
-    if let Checked::Refused { number, place } = tables::check_table(1, table) {
+    if let Checked::Refused {
+        number: _,
+        place: _,
+    } = tables::check_table(1, table) {
+        return NONE;
+    }
+    if room.len() / 8 < 2 {
+        return NONE;
+    }
+    threes::write_gates(table[0], table[1], room)
+}
+
+// The cascade of a table of any number of lines, each with an array of its own size. A slice is lent on as a new one, since the compiler copies the old
+// one's two halves by one load, which has to wait for the two stores that made it.
+fn write_any(lines: u8, table: &[u16], room: &mut [u8]) -> usize
+    ensures { λ r. ⌜ Wrote lines (now (table .entry)) (now (room .entry)) r (now (room .exit)) ⌝ }
+{
+    match lines {
+        1 => write_one_line(table, room),
+        2 => {
+            let mut inverse = [65535u16; 9];
+            write_by(2, &table[..], &mut inverse, room)
+        }
+        3 => {
+            let mut inverse = [65535u16; 27];
+            write_by(3, &table[..], &mut inverse, room)
+        }
+        4 => {
+            let mut inverse = [65535u16; 81];
+            write_by(4, &table[..], &mut inverse, room)
+        }
+        5 => {
+            let mut inverse = [65535u16; 243];
+            write_by(5, &table[..], &mut inverse, room)
+        }
+        6 => {
+            let mut inverse = [65535u16; 729];
+            write_by(6, &table[..], &mut inverse, room)
+        }
+        _ => NONE,
+    }
+}
+
+// The refusal of a call that is refused: 1 to 4 of the table, and else 5.
+fn refuse(lines: u8, table: &[u16], room: usize) -> Counted
+    requires { ⌜ Unfit lines (now table) room ⌝ }
+    ensures { λ r. ⌜ countedAs r ≡ synthesizeAnswer lines (now (table .entry)) room ⌝ }
+{
+    if let Checked::Refused { number, place } = tables::check_table(lines, table) {
         return Counted::Refused {
             number: number,
             place: place,
         };
     }
-    if room.len() / 8 < 2 {
-        return Counted::Refused {
-            number: 5,
-            place: 2,
-        };
+    Counted::Refused {
+        number: 5,
+        place: room_asked(lines as usize),
     }
-    Counted::Gates(threes::write_gates(table[0], table[1], room))
 }
 
 // The cascade of a table, written to the start of the room. The answer is its number of gates, or a refusal 1 to 5.
@@ -76,34 +116,10 @@ pub fn synthesize(lines: u8, table: &[u16], room: &mut [u8]) -> Counted
     ensures { λ r. ⌜ countedAs r ≡ synthesizeAnswer lines (now (table .entry)) (length (now (room .entry))) ⌝ }
     ensures { λ _. ⌜ now (room .exit) ≡ synthesizeRoom lines (now (table .entry)) (now (room .entry)) ⌝ }
 {
-    // One line returns at once: its answer would take longer to pass through the others' than to find.
-    if lines == 1 {
-        return synthesize_one_line(table, room);
+    let size = room.len();
+    let gates = write_any(lines, table, room);
+    if gates < NONE {
+        return Counted::Gates(gates);
     }
-    match lines {
-        2 => {
-            let mut inverse = [65535u16; 9];
-            synthesize_by(2, table, &mut inverse, room)
-        }
-        3 => {
-            let mut inverse = [65535u16; 27];
-            synthesize_by(3, table, &mut inverse, room)
-        }
-        4 => {
-            let mut inverse = [65535u16; 81];
-            synthesize_by(4, table, &mut inverse, room)
-        }
-        5 => {
-            let mut inverse = [65535u16; 243];
-            synthesize_by(5, table, &mut inverse, room)
-        }
-        6 => {
-            let mut inverse = [65535u16; 729];
-            synthesize_by(6, table, &mut inverse, room)
-        }
-        _ => Counted::Refused {
-            number: 1,
-            place: 0,
-        },
-    }
+    refuse(lines, &table[..], size)
 }

@@ -34,7 +34,7 @@ fn write_rows(
     requires { ⌜ none ≡ noneFrom n ⌝ }
     requires { ⌜ Spreads n (now spread) ⌝ }
     requires { ⌜ Paired n (now table) (now inverse) ⌝ }
-    requires { ⌜ length (synthesized n (now table)) ≤ length (now words) ⌝ }
+    requires { ⌜ length (synthesized n (now table)) < length (now words) ⌝ }
     ensures { λ r. ⌜ Lays (synthesized n (now (table .entry))) r (length (now (words .entry))) (now (words .entry)) (now (words .exit)) ⌝ }
 {
     let mut end = words.len();
@@ -100,7 +100,7 @@ fn find_in(
     requires { ⌜ Paired n (now given) (now inverse) ⌝ }
     requires { ⌜ length (now table) ≡ length (now given) ⌝ }
     requires { ⌜ length (now spread) ≡ length (now given) ⌝ }
-    requires { ⌜ length (synthesized n (now given)) ≤ length (now words) ⌝ }
+    requires { ⌜ length (synthesized n (now given)) < length (now words) ⌝ }
     ensures { λ r. ⌜ Lays (synthesized n (now (given .entry))) r (length (now (words .entry))) (now (words .entry)) (now (words .exit)) ⌝ }
 {
     copy(given, table);
@@ -123,7 +123,7 @@ fn write_by(
     requires { ⌜ Paired n (now given) (now inverse) ⌝ }
     requires { ⌜ length (now table) ≡ 3 ^ n ⌝ }
     requires { ⌜ length (now spread) ≡ 3 ^ n ⌝ }
-    requires { ⌜ length (synthesized n (now given)) ≤ length (now words) ⌝ }
+    requires { ⌜ length (synthesized n (now given)) < length (now words) ⌝ }
     requires { ⌜ 8 * length (synthesized n (now given)) ≤ length (now room) ⌝ }
     ensures { λ r. ⌜ (r ≡ length (synthesized n (now (given .entry)))) × (now (room .exit) ≡ laid (bytesOf (synthesized n (now (given .entry)))) (now (room .entry))) ⌝ }
 {
@@ -146,31 +146,31 @@ pub fn write_gates(n: usize, given: &[u16], inverse: &mut [u16], room: &mut [u8]
         2 => {
             let mut table = [0u16; 9];
             let mut spread = [0u64; 9];
-            let mut words = [0u64; 14];
+            let mut words = [0u64; 15];
             write_by(n, given, inverse, &mut table, &mut spread, &mut words, room)
         }
         3 => {
             let mut table = [0u16; 27];
             let mut spread = [0u64; 27];
-            let mut words = [0u64; 68];
+            let mut words = [0u64; 69];
             write_by(n, given, inverse, &mut table, &mut spread, &mut words, room)
         }
         4 => {
             let mut table = [0u16; 81];
             let mut spread = [0u64; 81];
-            let mut words = [0u64; 284];
+            let mut words = [0u64; 285];
             write_by(n, given, inverse, &mut table, &mut spread, &mut words, room)
         }
         5 => {
             let mut table = [0u16; 243];
             let mut spread = [0u64; 243];
-            let mut words = [0u64; 1094];
+            let mut words = [0u64; 1095];
             write_by(n, given, inverse, &mut table, &mut spread, &mut words, room)
         }
         _ => {
             let mut table = [0u16; 729];
             let mut spread = [0u64; 729];
-            let mut words = [0u64; 4010];
+            let mut words = [0u64; 4011];
             write_by(n, given, inverse, &mut table, &mut spread, &mut words, room)
         }
     }

@@ -2,7 +2,6 @@
 use mathlib.Core.Path.{sym, _∙_}
 use native.Mathlib.Omega.{arith}
 use Rattle.synthesis.proofs.Synthesis.{synthesized-gates}
-use Rattle.synthesis.proofs.Layings.{lays-length}
 use Rattle.synthesis.proofs.Words.{words-laid}
 use borrow.Author.Needs.{needs}
 use Rattle.synthesis.proofs.passes.write_by.Statement.{statement}
@@ -52,7 +51,7 @@ returns c =
     let s = c .before .before .before .before .before .before .before .before .before .before .before .before .before .before .before .before .before .before .before .before .before .before .before .before .before in
     let w = s .pre .1 .0 in
     let found = c .before .before .before .before .before .before .before .before .before .before .before .before .before .before .find-in .ensures in (
-      omega (arith, found .count, lays-length _ _ _ _ _ found),
+      omega (arith, found .count, found .size),
       c .before .before .put-words .ensures ∙ words-laid _ (w .lines) _ _ _ _ _ (synthesized-gates _ _ (w .lines) (w .perm)) found (s .pre .1 .1 .1 .1 .1),
     )
 

@@ -9,7 +9,7 @@ use borrow.Author.Needs.{needs}
 use native.Mathlib.Omega.{arith}
 use Rattle.synthesis.specs.Steps.{rowsFrom, Reached, Lays}
 use Rattle.synthesis.proofs.Moves.{sized, row-below, same-sizes, rows-none, rows-found, rows-room, rows-more, rows-all}
-use Rattle.synthesis.proofs.Layings.{lays-none, lays-more, lays-length}
+use Rattle.synthesis.proofs.Layings.{lays-none, lays-more}
 use Rattle.synthesis.proofs.passes.write_rows.Statement.{statement}
 use Rattle.synthesis.proofs.passes.write_rows.Tie as tie
 
@@ -58,7 +58,7 @@ write-row-requires c κs =
             row t,
             (
               rows-room _ _ _ _ _ (g .at) _ _ (row t) (start t .pre .1 .1 .1) (g .laid .count),
-              omega (arith, g .laid .count, lays-length _ _ _ _ _ (g .laid)),
+              omega (arith, g .laid .count, g .laid .size),
             ),
           ),
         ),
@@ -88,7 +88,7 @@ same-length-2 : tie.Need-same-length-2 Inv-loop μ-loop
 same-length-2 c = same-sizes _ _ _ _ _ (c .before .before .before .before .before .before .pre .1 .1 .0) (c .before .loop .inv .at .pair) .1
 
 same-length-3 : tie.Need-same-length-3 Inv-loop μ-loop
-same-length-3 c = lays-length _ _ _ _ _ (c .before .loop .inv .laid)
+same-length-3 c = c .before .loop .inv .laid .size
 
 returns : tie.Need-returns Inv-loop μ-loop
 returns c =

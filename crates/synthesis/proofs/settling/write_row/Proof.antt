@@ -3,19 +3,21 @@
 use denote.Ref.{now}
 use mathlib.Core.Path.{_≡_, refl, sym, ap, _∙_}
 use mathlib.Core.List.{List}
+use mathlib.Core.Logic.{_⊎_, ⊎-elim}
 use Prim.Native.Nat.{ℕ, _+_, _-_, _*_, _/_, _%_, _^_, _≤_, _<_}
 use native.Mathlib.Nat.{pow-suc, pow-le-pow-right, le-refl}
 use native.Mathlib.Numerals.{add-one}
 use lib.ListN.{length, getD, set}
 use borrow.Author.Needs.{needs}
 use native.Mathlib.Omega.{arith}
+use Rattle.ranges.proofs.Counts.{lt-or-le}
 use Rattle.digits.specs.Digits.{digit}
 use Rattle.digits.proofs.Digits.{digit-lt, digit-put-other, shift-start, shift-digit, shift-next}
 use Rattle.digits.proofs.Sizes.{three-pos, patterns-most}
 use Rattle.synthesis.specs.Steps.{rowFrom, Paired, Reached, spreadOf, noneFrom, Spreads, Facing, Lays}
-use Rattle.synthesis.proofs.Spreads.{spread-digit, spread-small, none-small}
-use Rattle.synthesis.proofs.Moves.{Sized, sized, same-sizes, held-sized, held-lt, row-settled, row-none, row-found, row-more, row-past, row-room}
-use Rattle.synthesis.proofs.Layings.{lays-none, lays-more, lays-length}
+use Rattle.synthesis.proofs.Spreads.{spread-digit, spread-small, spread-past, spread-rest, none-small}
+use Rattle.synthesis.proofs.Moves.{Sized, sized, same-sizes, held-sized, held-at, held-lt, row-none, row-found, row-more, row-past, row-free, row-done}
+use Rattle.synthesis.proofs.Layings.{lays-none, lays-more}
 use Rattle.synthesis.proofs.settling.write_row.Statement.{statement}
 use Rattle.synthesis.proofs.settling.write_row.Tie as tie
 
@@ -23,9 +25,9 @@ record Going (n i none : ℕ) (sp t₀ ws₀ : List ℕ) (end : ℕ) (t v ws : L
   below : i < 3 ^ n
   bare : none ≡ noneFrom n
   spreads : Spreads n sp
-  fits : length (rowFrom n i n t₀ .found) ≤ end
+  fits : length (rowFrom n i n t₀ .found) < end
   room : end ≤ length ws₀
-  at : Reached n (rowFrom n i k t₀) (set t i a) (set v a i)
+  at : Reached n (rowFrom n i k t₀) (set t i a) v
   past : n ≤ k → rowFrom n i k t₀ ≡ rowFrom n i n t₀
   laid : Lays (rowFrom n i k t₀ .found) e end ws₀ ws
   same : (j : ℕ) → k ≤ j → digit 3 j a ≡ digit 3 j (getD t₀ i 0)
@@ -73,25 +75,19 @@ turning n i none sp t₀ ws₀ end t v ws a x z e w u k g lt =
       byte = rw (g .byte) (pow-le-pow-right {n = 256} (omega arith) {i = k} {j = 5} (omega arith));
     }
 
--- what storing the entry in hand needs of its numbers
-record Held (i a : ℕ) (t v : List ℕ) : Type 0 where
-  row : i < length t
-  value : a < length v
-  few : length t ≤ 729
-  alike : length v ≡ length t
-
-holding : (n i a : ℕ) (t v : List ℕ) → Paired n (set t i a) (set v a i) → i < 3 ^ n → Held i a t v
-holding n i a t v w below =
-    let s = held-sized n i a t v w in
-    let lt = held-lt n i a t v w below in
-    record { row = omega (arith, s .table); value = omega (arith, s .inverse); few = omega (arith, s .table, s .few); alike = s .inverse ∙ sym (s .table) }
+-- there is a line left where something is left of the entries, and none is where they are alike
+open-line : (a b k x z : ℕ) → x ≡ spreadOf a / 256 ^ k → z ≡ spreadOf b / 256 ^ k → (x ≡ z → ⊥) → k < 6
+open-line a b k x z ex ez ne = ⊎-elim (λ (lt : k < 6). lt) (λ (le : 6 ≤ k). absurd (ne (ex ∙ spread-past a k le ∙ sym (ez ∙ spread-past b k le)))) (lt-or-le k 6)
 
 module _ (c : tie.In-loop Inv-loop μ-loop) where
   abbrev start : tie.Start Inv-loop μ-loop
-  start = c .before .before .before .before .before .before .before .before .before .before
+  start = c .before .before .before .before .before .before .before .before .before
+
+  left : c .before .loop .k < 6
+  left = let g = c .before .loop .inv in open-line _ _ _ _ _ (g .from) (g .to) (c .loop-test .taken)
 
   turn : Turn (start .args .n) (start .args .i) (start .args .none) (now (start .args .spread)) (c .before .loop .a) (c .before .loop .present) (c .before .loop .wanted) (c .before .loop .weight) (c .before .loop .byte) (c .before .loop .k)
-  turn = turning _ _ _ _ _ _ _ _ _ _ _ _ _ _ _ _ _ (c .before .loop .inv) (c .loop-test .taken)
+  turn = turning _ _ _ _ _ _ _ _ _ _ _ _ _ _ _ _ _ (c .before .loop .inv) left
 
 module _ (c : tie.After-slice-known7 Inv-loop μ-loop) where
   abbrev state : tie.In-loop Inv-loop μ-loop
@@ -111,33 +107,25 @@ mul-a c = search needs
 slice-read-a : tie.Need-slice-read-a Inv-loop μ-loop
 slice-read-a c = let s = c .before .before .before .before .before in omega (arith, sizes s, s .pre .1 .1 .1 .0)
 
-cast-if1 : tie.Need-cast-if1 Inv-loop μ-loop
-cast-if1 c = let s = c .before .before .before .before .before in omega (arith, old s, sizes s)
-
-returns : tie.Need-returns Inv-loop μ-loop
-returns c =
-    let s = c .before .before .before .before .before .before in
-    rw (row-settled (s .args .n) (s .args .i) (now (s .args .table)) (c .if1 .taken) (s .args .n)) (lays-none _ _, record { table = refl; pair = s .pre .1 .1 .0 })
-
 cast-present : tie.Need-cast-present Inv-loop μ-loop
-cast-present c = let s = c .before .before .before .before .before .before in omega (arith, old s, sizes s)
+cast-present c = let s = c .before .before .before .before .before in omega (arith, old s, sizes s)
 
 mul-present : tie.Need-mul-present Inv-loop μ-loop
-mul-present c = let s = c .before .before .before .before .before .before in omega (arith, old s, sizes s)
+mul-present c = let s = c .before .before .before .before .before in omega (arith, old s, sizes s)
 
 shared-slice-read-present : tie.Need-shared-slice-read-present Inv-loop μ-loop
-shared-slice-read-present c = let s = c .before .before .before .before .before .before .before in omega (arith, old s, s .pre .1 .0 .size)
+shared-slice-read-present c = let s = c .before .before .before .before .before .before in omega (arith, old s, s .pre .1 .0 .size)
 
 mul-wanted : tie.Need-mul-wanted Inv-loop μ-loop
 mul-wanted c = search needs
 
 shared-slice-read-wanted : tie.Need-shared-slice-read-wanted Inv-loop μ-loop
-shared-slice-read-wanted c = let s = c .before .before .before .before .before .before .before .before in omega (arith, s .pre .1 .1 .1 .0, s .pre .1 .0 .size)
+shared-slice-read-wanted c = let s = c .before .before .before .before .before .before .before in omega (arith, s .pre .1 .1 .1 .0, s .pre .1 .0 .size)
 
 loop-holds : tie.Need-loop-holds Inv-loop μ-loop
 loop-holds c =
-    let s = c .before .before .before .before .before .before .before .before in
-    let none = row-none (s .args .n) (s .args .i) (now (s .args .table)) (now (s .args .inverse)) (s .pre .1 .1 .0) (s .pre .1 .1 .1 .0) in
+    let s = c .before .before .before .before .before .before .before in
+    let none = row-none (s .args .n) (s .args .i) (now (s .args .table)) (now (s .args .inverse)) (s .pre .1 .1 .0) in
     record {
       below = s .pre .1 .1 .1 .0;
       bare = s .pre .0;
@@ -181,10 +169,7 @@ settle-requires c κs =
         (g .below, c .before .before .before .before .before .entry-for .ensures),
         (
           c .before .before .before .word-for .ensures,
-          (
-            row-room _ _ _ _ _ _ (g .at) (g .below) (g .past) _ _ (g .laid .count) (g .fits),
-            omega (arith, g .laid .count, lays-length _ _ _ _ _ (g .laid), g .room),
-          ),
+          (row-free _ _ _ _ _ _ (g .at) (g .below) (g .past) _ _ (g .laid .count) (g .fits), omega (arith, g .laid .count, g .laid .size, g .room)),
         ),
       ),
     )
@@ -196,10 +181,10 @@ mul-byte : tie.Need-mul-byte Inv-loop μ-loop
 mul-byte c = omega (arith, turn (state c) .byte)
 
 add-k : tie.Need-add-k Inv-loop μ-loop
-add-k c = omega (arith, state c .loop-test .taken)
+add-k c = omega (arith, left (state c))
 
 loop-less : tie.Need-loop-less Inv-loop μ-loop
-loop-less c = omega (arith, state c .loop-test .taken)
+loop-less c = omega (arith, left (state c))
 
 loop-again : tie.Need-loop-again Inv-loop μ-loop
 loop-again c =
@@ -222,43 +207,40 @@ loop-again c =
       byte = rw (add-one, pow-suc) (ap (λ (x : ℕ). x * 256) (g .byte));
     }
 
--- after the loop: the entry in hand goes to its places
+-- after the loop: the entry in hand goes to its place, and the digits that are left are those of i
 module _ (c : tie.After-loop Inv-loop μ-loop) where
-  held : Held (c .before .before .before .before .before .before .before .before .before .before .args .i) (c .before .loop .a) (c .before .loop .table) (c .before .loop .inverse)
-  held = holding _ _ _ _ _ (c .before .loop .inv .at .pair) (c .before .loop .inv .below)
+  abbrev begin : tie.Start Inv-loop μ-loop
+  begin = c .before .before .before .before .before .before .before .before .before
+
+  entry : c .before .loop .a ≡ getD (set (c .before .loop .table) (begin .args .i) (c .before .loop .a)) (begin .args .i) 0
+  entry = let g = c .before .loop .inv in held-at _ _ _ (c .before .loop .table) _ (g .at .pair) (g .below)
+
+  alike : (j : ℕ) → c .before .loop .k ≤ j → digit 3 j (c .before .loop .a) ≡ digit 3 j (begin .args .i)
+  alike j le =
+      let g = c .before .loop .inv in
+      let few = sizes begin .few in
+      g .same j le ∙ spread-rest _ _ _ (omega (arith, old begin)) (omega (arith, g .below)) (sym (g .from) ∙ c .loop-test .left ∙ g .to) j le
+
+  done : rowFrom (begin .args .n) (begin .args .i) (c .before .loop .k) (now (begin .args .table)) ≡ rowFrom (begin .args .n) (begin .args .i) (begin .args .n) (now (begin .args .table))
+  done = let g = c .before .loop .inv in row-done _ _ _ _ _ _ (g .at) (g .below) (g .past) (λ j le. ap (digit 3 j) (sym entry) ∙ alike j le)
 
 mul-table : tie.Need-mul-table Inv-loop μ-loop
 mul-table c = search needs
 
 slice-write-table : tie.Need-slice-write-table Inv-loop μ-loop
-slice-write-table c = omega (arith, held c)
-
-cast-inverse : tie.Need-cast-inverse Inv-loop μ-loop
-cast-inverse c = omega (arith, held c)
-
-cast-inverse-2 : tie.Need-cast-inverse-2 Inv-loop μ-loop
-cast-inverse-2 c = omega (arith, held c)
-
-mul-inverse : tie.Need-mul-inverse Inv-loop μ-loop
-mul-inverse c = omega (arith, held c)
-
-slice-write-inverse : tie.Need-slice-write-inverse Inv-loop μ-loop
-slice-write-inverse c = omega (arith, held c)
+slice-write-table c = let g = c .before .loop .inv in omega (arith, held-sized _ _ _ (c .before .loop .table) _ (g .at .pair) .table, g .below)
 
 same-length : tie.Need-same-length Inv-loop μ-loop
-same-length c = same-sizes _ _ _ _ _ (c .before .before .before .before .before .before .before .before .before .before .pre .1 .1 .0) (c .before .loop .inv .at .pair) .0
+same-length c = same-sizes _ _ _ _ _ (begin c .pre .1 .1 .0) (c .before .loop .inv .at .pair) .0
 
 same-length-2 : tie.Need-same-length-2 Inv-loop μ-loop
-same-length-2 c = same-sizes _ _ _ _ _ (c .before .before .before .before .before .before .before .before .before .before .pre .1 .1 .0) (c .before .loop .inv .at .pair) .1
+same-length-2 c = same-sizes _ _ _ _ _ (begin c .pre .1 .1 .0) (c .before .loop .inv .at .pair) .1
 
 same-length-3 : tie.Need-same-length-3 Inv-loop μ-loop
-same-length-3 c = lays-length _ _ _ _ _ (c .before .loop .inv .laid)
+same-length-3 c = c .before .loop .inv .laid .size
 
-returns-2 : tie.Need-returns-2 Inv-loop μ-loop
-returns-2 c =
-    let g = c .before .loop .inv in
-    let all = g .past (omega (arith, c .loop-test .left, g .at .pair .lines)) in
-    (rw all at (g .laid), rw all at (g .at))
+returns : tie.Need-returns Inv-loop μ-loop
+returns c = let g = c .before .loop .inv in (rw (done c) at (g .laid), rw (done c) at (g .at))
 
 pub write-row-spec : {M : Type 1} → statement M
 write-row-spec =
@@ -268,8 +250,6 @@ write-row-spec =
     μ-loop
     mul-a
     slice-read-a
-    cast-if1
-    returns
     cast-present
     mul-present
     shared-slice-read-present
@@ -290,11 +270,7 @@ write-row-spec =
     loop-again
     mul-table
     slice-write-table
-    cast-inverse
-    cast-inverse-2
-    mul-inverse
-    slice-write-inverse
     same-length
     same-length-2
     same-length-3
-    returns-2)
+    returns)
