@@ -10,7 +10,7 @@ use native.Mathlib.Omega.{arith}
 use lib.Dec.{eqb, leb, ltb}
 use lib.ListN.{length, getD, take, drop}
 use lib.Seq.{getD-take, getD-drop}
-use lib.Bits.{bitAnd, bitOr, bitXor, and-le-r, or-lt, or-add-and}
+use lib.Bits.{bitAnd, bitXor, and-le-r}
 use borrow.Author.Tests.{eqb-true, eqb-false, leb-true, ltb-true, ltb-false, eq-eqb, ne-eqb, not-true, le-leb, lt-leb, lt-ltb, le-ltb}
 use Rattle.ranges.specs.Ranges.{every, sum}
 use Rattle.ranges.proofs.Bools.{and-left, and-right, decide, clash}
@@ -18,12 +18,13 @@ use Rattle.ranges.proofs.Tests.{every-below, every-of, every-ext}
 use Rattle.digits.specs.Digits.{digit, pack}
 use Rattle.digits.proofs.Digits.{digit-zero, digit-suc, digit-lt, digit-low, digit-up, low-div, low-mod}
 use Rattle.digits.proofs.Packs.{pack-ext, pack-digits}
-use Rattle.digits.proofs.Bits.{digit-and, digit-or, digit-xor, digit-of-zero, zero-digits}
+use Rattle.digits.proofs.Bits.{digit-and, digit-xor, digit-of-zero, zero-digits}
 use Rattle.gates.specs.Records.{lineOk, linesOkAt, packedAt, isRecord, gateAt, asRecord, decoded}
 use Rattle.gates.specs.declared.Record.{Record}
 use Rattle.card.specs.Card.{linesOk}
+use Rattle.card.proofs.Cards.{lines-are}
 use Rattle.gates.proofs.Records.{line-lt}
-use Rattle.gates.specs.Words.{byte, Word, bytesIn, linesOkIn, isWord, gateOf, bare, asked, faultsIn, Low}
+use Rattle.gates.specs.Words.{byte, Word, bytesIn, linesOkIn, isWord, gateOf, bare, never, allBits, model, asked, faultsIn, Low}
 
 -- ---- what is computed
 
@@ -50,31 +51,47 @@ pub weight-some : (k : ℕ) → k ≤ 6 → 1 ≤ 256 ^ k
 unfolding every
 weight-some k le = leb-true _ _ (every-below (λ k. leb 1 (256 ^ k)) 7 refl k (omega arith))
 
--- what is wrong with one byte: bits of n that it has, and bits of a that it hasn't
+-- two tests that agree on each byte
+bytes-agree : (f g : ℕ → Bool) → every (λ x. cond (f x) (g x) (not (g x))) 0 256 ≡ true → (x : ℕ) → x < 256 → f x ≡ g x
+bytes-agree f g e x lt = same (f x) (g x) (every-below (λ x. cond (f x) (g x) (not (g x))) 256 e x lt)
+
+-- what is wrong with one byte: the bits of a in which it is not as the model's byte m
 abbrev amiss : ℕ → ℕ → ℕ → ℕ
-amiss n a x = bitOr (bitAnd x n) (bitAnd (bitXor x a) a)
+amiss m a x = bitAnd (bitXor x m) a
 
--- an operator or a target, of which nothing is asked; a control byte against that of `bare`; and all bits
-head-right : (x : ℕ) → x < 256 → eqb (amiss 248 0 x) 0 ≡ ltb x 8
+-- the operator, or else the target, of which those bits are asked that no gate has; of which all are; and a control byte
+head-right : (operator : Bool) (x : ℕ) → x < 256 → eqb (amiss (cond operator 1 0) 248 x) 0 ≡ ltb x 8
 unfolding every
-head-right x lt = same _ _ (every-below (λ x. cond (eqb (amiss 248 0 x) 0) (ltb x 8) (not (ltb x 8))) 256 refl x lt)
+head-right true = bytes-agree (λ x. eqb (amiss 1 248 x) 0) (λ x. ltb x 8) refl
+head-right false = bytes-agree (λ x. eqb (amiss 0 248 x) 0) (λ x. ltb x 8) refl
 
-byte-right : (none : Bool) (x : ℕ) → x < 256 → eqb (amiss 252 (cond none 3 0) x) 0 ≡ cond none (eqb x 3) (leb x 3)
+all-right : (operator : Bool) (x : ℕ) → x < 256 → eqb (amiss (cond operator 1 0) 255 x) 0 ≡ eqb x (cond operator 1 0)
 unfolding every
-byte-right true x lt = same _ _ (every-below (λ x. cond (eqb (amiss 252 3 x) 0) (eqb x 3) (not (eqb x 3))) 256 refl x lt)
-byte-right false x lt = same _ _ (every-below (λ x. cond (eqb (amiss 252 0 x) 0) (leb x 3) (not (leb x 3))) 256 refl x lt)
+all-right true = bytes-agree (λ x. eqb (amiss 1 255 x) 0) (λ x. eqb x 1) refl
+all-right false = bytes-agree (λ x. eqb (amiss 0 255 x) 0) (λ x. eqb x 0) refl
 
-never-right : (x : ℕ) → x < 256 → eqb (amiss 248 255 x) 0 ≡ false
+byte-right : (none : Bool) (x : ℕ) → x < 256 → eqb (amiss 3 (cond none 255 252) x) 0 ≡ cond none (eqb x 3) (leb x 3)
 unfolding every
-never-right x lt = not-true _ (every-below (λ x. not (eqb (amiss 248 255 x) 0)) 256 refl x lt)
+byte-right true = bytes-agree (λ x. eqb (amiss 3 255 x) 0) (λ x. eqb x 3) refl
+byte-right false = bytes-agree (λ x. eqb (amiss 3 252 x) 0) (λ x. leb x 3) refl
 
-never-head : (k : ℕ) → k < 2 → byte k 18229723555195320568 ≡ 248
+-- an operator or a target of 8 or more is never right
+far-wrong : (operator ok : Bool) (x : ℕ) → x < 256 → 8 ≤ x → eqb (amiss (cond operator 1 0) (cond ok 248 255) x) 0 ≡ false
+far-wrong operator true x lt le = head-right operator x lt ∙ le-ltb x 8 le
+far-wrong true false x lt le = all-right true x lt ∙ ne-eqb x 1 (λ e. omega (arith, e, le))
+far-wrong false false x lt le = all-right false x lt ∙ ne-eqb x 0 (λ e. omega (arith, e, le))
+
+model-head : (k : ℕ) → k < 2 → byte k model ≡ cond (eqb k 0) 1 0
 unfolding every digit
-never-head k lt = eqb-true _ _ (every-below (λ k. eqb (byte k 18229723555195320568) 248) 2 refl k lt)
+model-head k lt = eqb-true _ _ (every-below (λ k. eqb (byte k model) (cond (eqb k 0) 1 0)) 2 refl k lt)
 
-never-control : (k : ℕ) → k < 6 → byte (2 + k) 18229723555195320568 ≡ 252
+model-control : (k : ℕ) → k < 6 → byte (2 + k) model ≡ 3
 unfolding every digit
-never-control k lt = eqb-true _ _ (every-below (λ k. eqb (byte (2 + k) 18229723555195320568) 252) 6 refl k lt)
+model-control k lt = eqb-true _ _ (every-below (λ k. eqb (byte (2 + k) model) 3) 6 refl k lt)
+
+all-head : (k : ℕ) → k < 2 → byte k allBits ≡ 255
+unfolding every digit
+all-head k lt = eqb-true _ _ (every-below (λ k. eqb (byte k allBits) 255) 2 refl k lt)
 
 -- ---- bytes by place
 
@@ -125,70 +142,48 @@ none-in m z f low h = ⊎-elim (λ (e : eqb z 0 ≡ true). e ∙ sym (yes e)) (�
     no e (_⊎_.inr q) = q
 
 -- the bytes of the faults
-fault-byte : (a w k : ℕ) → byte k (faultsIn a w) ≡ amiss (byte k 18229723555195320568) (byte k a) (byte k w)
+fault-byte : (a w k : ℕ) → byte k (faultsIn a w) ≡ amiss (byte k model) (byte k a) (byte k w)
 unfolding faultsIn
 fault-byte a w k =
-    let o : digit 256 k (bitOr (bitAnd w 18229723555195320568) (bitAnd (bitXor w a) a)) ≡ bitOr (byte k (bitAnd w 18229723555195320568)) (byte k (bitAnd (bitXor w a) a)) =
-    digit-or 8 k (bitAnd w 18229723555195320568) (bitAnd (bitXor w a) a) in
-    let n : digit 256 k (bitAnd w 18229723555195320568) ≡ bitAnd (byte k w) (byte k 18229723555195320568) = digit-and 8 k w 18229723555195320568 in
-    let m : digit 256 k (bitAnd (bitXor w a) a) ≡ bitAnd (byte k (bitXor w a)) (byte k a) = digit-and 8 k (bitXor w a) a in
-    let x : digit 256 k (bitXor w a) ≡ bitXor (byte k w) (byte k a) = digit-xor 8 k w a in
-    rw (o, n, m, x)
+    let m : digit 256 k (bitAnd (bitXor w model) a) ≡ bitAnd (byte k (bitXor w model)) (byte k a) = digit-and 8 k (bitXor w model) a in
+    let x : digit 256 k (bitXor w model) ≡ bitXor (byte k w) (byte k model) = digit-xor 8 k w model in
+    rw (m, x)
 
 fault-lt : (a w : ℕ) → a < 256 ^ 8 → faultsIn a w < 256 ^ 8
 unfolding faultsIn
-fault-lt a w lt =
-    or-lt 64 (bitAnd w 18229723555195320568) (bitAnd (bitXor w a) a) (lt-of-le-of-lt (and-le-r w 18229723555195320568) (omega arith))
-    (lt-of-le-of-lt (and-le-r (bitXor w a) a) lt)
+fault-lt a w lt = lt-of-le-of-lt (and-le-r (bitXor w model) a) lt
 
--- an operator or a target of 8 or more has bits that no gate has
-or-more : (a b : ℕ) → a ≤ bitOr a b
-or-more a b = omega (arith, or-add-and a b, and-le-r a b)
+-- where there are none, no byte has any
+fault-none : (a w k : ℕ) → faultsIn a w ≡ 0 → eqb (amiss (byte k model) (byte k a) (byte k w)) 0 ≡ true
+fault-none a w k e = eq-eqb (amiss (byte k model) (byte k a) (byte k w)) 0 (sym (fault-byte a w k) ∙ ap (λ (x : ℕ). byte k x) e ∙ digit-of-zero 256 k (omega arith))
 
-high-bits : (x : ℕ) → x < 256 → 8 ≤ x → 1 ≤ bitAnd x 248
-unfolding every
-high-bits x lt le =
-    let one = every-below (λ x. cond (leb 8 x) (leb 1 (bitAnd x 248)) true) 256 refl x lt in
-    leb-true 1 (bitAnd x 248) (rw (le-leb 8 x le) at one)
-
-fault-far : (a w k : ℕ) → k < 2 → 8 ≤ byte k w → eqb (faultsIn a w) 0 ≡ false
-fault-far a w k lt le =
-    let some = high-bits (byte k w) (digit-lt 256 k w (omega arith)) le in
-    let more = or-more (bitAnd (byte k w) 248) (bitAnd (bitXor (byte k w) (byte k a)) (byte k a)) in
-    ne-eqb (faultsIn a w) 0
-    (λ q.
-    let none : amiss 248 (byte k a) (byte k w) ≡ 0 = ap (λ (n : ℕ). amiss n (byte k a) (byte k w)) (sym (never-head k lt)) ∙ sym (fault-byte a w k) ∙ ap (λ (x : ℕ). byte k x) q ∙ digit-of-zero 256 k (omega arith) in
-    absurd (omega (arith, some, more, none)))
-
--- where all bits are asked, some are missing or too many
-pub fault-all : (w : ℕ) → eqb (faultsIn 18446744073709551615 w) 0 ≡ false
-fault-all w =
-    let ones : byte 0 18446744073709551615 ≡ 255 = digit-zero 256 18446744073709551615 in
-    let wrong : eqb (byte 0 (faultsIn 18446744073709551615 w)) 0 ≡ false =
-    rw (fault-byte 18446744073709551615 w 0, never-head 0 (omega arith), ones) (never-right (byte 0 w) (digit-lt 256 0 w (omega arith))) in
-    ne-eqb (faultsIn 18446744073709551615 w) 0
-    (λ q. eqb-false (byte 0 (faultsIn 18446744073709551615 w)) 0 wrong (ap (λ (x : ℕ). byte 0 x) q ∙ digit-of-zero 256 0 (omega arith)))
+-- and where all bits are asked, the operator is the model's, and the target
+all-none : (w k : ℕ) → k < 2 → faultsIn allBits w ≡ 0 → byte k w ≡ cond (eqb k 0) 1 0
+all-none w k lt e =
+    let none = fault-none allBits w k e in
+    eqb-true (byte k w) (cond (eqb k 0) 1 0) (sym (all-right (eqb k 0) (byte k w) (digit-lt 256 k w (omega arith))) ∙ rw (model-head k lt, all-head k lt) at none)
 
 module _ (n t : ℕ) (six : n ≤ 6) (on : t < n) where
-  bare-byte : (k : ℕ) → k < 6 → byte (2 + k) (bare n t) ≡ cond (eqb k t || leb n k) 3 0
+  bare-control : (k : ℕ) → k < 6 → byte (2 + k) (never + bare n t) ≡ cond (eqb k t || leb n k) 255 252
   unfolding every digit bare
-  bare-byte k lt =
-      let test : ℕ → ℕ → ℕ → Bool = λ n t k. cond (ltb t n) (eqb (byte (2 + k) (bare n t)) (cond (eqb k t || leb n k) 3 0)) true in
+  bare-control k lt =
+      let test : ℕ → ℕ → ℕ → Bool = λ n t k. cond (ltb t n) (eqb (byte (2 + k) (never + bare n t)) (cond (eqb k t || leb n k) 255 252)) true in
       let all : every (λ n. every (λ t. every (test n t) 0 6) 0 6) 0 7 ≡ true = refl in
       let one = every-below (test n t) 6 (every-below (λ t. every (test n t) 0 6) 6 (every-below (λ n. every (λ t. every (test n t) 0 6) 0 6) 7 all n (omega arith)) t (omega arith)) k lt in
       eqb-true _ _ (rw (lt-ltb t n on) at one)
 
-  bare-low : (k : ℕ) → k < 2 → byte k (bare n t) ≡ 0
+  bare-head : (k : ℕ) → k < 2 → byte k (never + bare n t) ≡ 248
   unfolding every digit bare
-  bare-low k lt =
-      let test : ℕ → ℕ → ℕ → Bool = λ n t k. eqb (byte k (bare n t)) 0 in
+  bare-head k lt =
+      let test : ℕ → ℕ → ℕ → Bool = λ n t k. eqb (byte k (never + bare n t)) 248 in
       let all : every (λ n. every (λ t. every (test n t) 0 2) 0 6) 0 7 ≡ true = refl in
       eqb-true _ _ (every-below (test n t) 2 (every-below (λ t. every (test n t) 0 2) 6 (every-below (λ n. every (λ t. every (test n t) 0 2) 0 6) 7 all n (omega arith)) t (omega arith)) k lt)
 
-  bare-lt : bare n t < 256 ^ 8
+  -- the two parts leave a word
+  pub bare-lt : never + bare n t < 256 ^ 8
   unfolding every bare
   bare-lt =
-      let test : ℕ → ℕ → Bool = λ n t. cond (ltb t n) (ltb (bare n t) (256 ^ 8)) true in
+      let test : ℕ → ℕ → Bool = λ n t. cond (ltb t n) (ltb (never + bare n t) (256 ^ 8)) true in
       let all : every (λ n. every (test n) 0 6) 0 7 ≡ true = refl in
       let one = every-below (test n) 6 (every-below (λ n. every (test n) 0 6) 7 all n (omega arith)) t (omega arith) in
       ltb-true _ _ (rw (lt-ltb t n on) at one)
@@ -198,25 +193,47 @@ module _ (n t : ℕ) (six : n ≤ 6) (on : t < n) where
     abbrev right : ℕ → Bool
     right k = cond (ltb k 2) (ltb (byte k w) 8) (lineOk n t (k - 2) (byte k w))
 
-    fault-right : (k : ℕ) → k < 8 → eqb (byte k (faultsIn (bare n t) w)) 0 ≡ right k
+    fault-right : (k : ℕ) → k < 8 → eqb (byte k (faultsIn (never + bare n t) w)) 0 ≡ right k
     unfolding lineOk
-    fault-right k lt = ap (λ (x : ℕ). eqb x 0) (fault-byte (bare n t) w k) ∙ go (decide (ltb k 2))
+    fault-right k lt = ap (λ (x : ℕ). eqb x 0) (fault-byte (never + bare n t) w k) ∙ go (decide (ltb k 2))
       where
-        go : (ltb k 2 ≡ true) ⊎ (ltb k 2 ≡ false) → eqb (amiss (byte k 18229723555195320568) (byte k (bare n t)) (byte k w)) 0 ≡ right k
+        go : (ltb k 2 ≡ true) ⊎ (ltb k 2 ≡ false) → eqb (amiss (byte k model) (byte k (never + bare n t)) (byte k w)) 0 ≡ right k
         go (_⊎_.inl e) =
             let l = ltb-true k 2 e in
-            rw (e, never-head k l, bare-low k l) (head-right (byte k w) (digit-lt 256 k w (omega arith)))
+            rw (e, model-head k l, bare-head k l) (head-right (eqb k 0) (byte k w) (digit-lt 256 k w (omega arith)))
         go (_⊎_.inr e) =
             let two : 2 + (k - 2) ≡ k = omega (arith, ltb-false k 2 e) in
-            let n4 : byte (2 + (k - 2)) 18229723555195320568 ≡ 252 = never-control (k - 2) (omega (arith, lt, ltb-false k 2 e)) in
-            let b4 : byte (2 + (k - 2)) (bare n t) ≡ cond (eqb (k - 2) t || leb n (k - 2)) 3 0 = bare-byte (k - 2) (omega (arith, lt, ltb-false k 2 e)) in
-            rw (e, rw two at n4, rw two at b4) (byte-right (eqb (k - 2) t || leb n (k - 2)) (byte k w) (digit-lt 256 k w (omega arith)))
+            let m4 : byte (2 + (k - 2)) model ≡ 3 = model-control (k - 2) (omega (arith, lt, ltb-false k 2 e)) in
+            let b4 : byte (2 + (k - 2)) (never + bare n t) ≡ cond (eqb (k - 2) t || leb n (k - 2)) 255 252 = bare-control (k - 2) (omega (arith, lt, ltb-false k 2 e)) in
+            rw (e, rw two at m4, rw two at b4) (byte-right (eqb (k - 2) t || leb n (k - 2)) (byte k w) (digit-lt 256 k w (omega arith)))
 
-    pub fault-bare : eqb (faultsIn (bare n t) w) 0 ≡ (ltb (byte 0 w) 8 && ltb (byte 1 w) 8 && linesOkIn n t w)
+    pub fault-bare : eqb (faultsIn (never + bare n t) w) 0 ≡ (ltb (byte 0 w) 8 && ltb (byte 1 w) 8 && linesOkIn n t w)
     unfolding linesOkIn every
     fault-bare =
-        none-in 8 (faultsIn (bare n t) w) right (fault-lt (bare n t) w bare-lt) fault-right
+        none-in 8 (faultsIn (never + bare n t) w) right (fault-lt (never + bare n t) w bare-lt) fault-right
         ∙ sym (and-assoc (ltb (byte 0 w) 8) (ltb (byte 1 w) 8) (linesOkIn n t w))
+
+-- an operator or a target of 8 or more has bits that no gate has, and these are always asked
+module _ (n h : ℕ) (six : n ≤ 6) where
+  -- a gate on n lines may have the operator and the target that h is
+  abbrev headed : Bool
+  headed = (leb 1 (h % 8) && leb (h % 8) 5) && ltb (h / 8) n
+
+  asked-head : (k : ℕ) → k < 2 → byte k (asked n h) ≡ cond headed 248 255
+  unfolding asked
+  asked-head k lt = go (decide headed)
+    where
+      go : (headed ≡ true) ⊎ (headed ≡ false) → byte k (cond headed (never + bare n (h / 8)) allBits) ≡ cond headed 248 255
+      go (_⊎_.inl e) = rw e (bare-head n (h / 8) six (ltb-true (h / 8) n (and-right (leb 1 (h % 8) && leb (h % 8) 5) (ltb (h / 8) n) e)) k lt)
+      go (_⊎_.inr e) = rw e (all-head k lt)
+
+  fault-far : (w k : ℕ) → k < 2 → 8 ≤ byte k w → eqb (faultsIn (asked n h) w) 0 ≡ false
+  fault-far w k lt le =
+      ne-eqb (faultsIn (asked n h) w) 0
+      (λ q.
+      let none = fault-none (asked n h) w k q in
+      clash (eqb (amiss (cond (eqb k 0) 1 0) (cond headed 248 255) (byte k w)) 0) (rw (model-head k lt, asked-head k lt) at none)
+      (far-wrong (eqb k 0) headed (byte k w) (digit-lt 256 k w (omega arith)) le))
 
 -- ---- a word put together
 
@@ -440,29 +457,38 @@ module _ (n w : ℕ) where
   abbrev valid : Bool
   valid = (leb 1 (byte 0 w) && leb (byte 0 w) 5) && ltb (byte 1 w) n
 
-  near-faults : n ≤ 6 → byte 0 w < 8 → byte 1 w < 8 → (valid ≡ true) ⊎ (valid ≡ false) → eqb (faultsIn (cond valid (bare n (byte 1 w)) 18446744073709551615) w) 0 ≡ isWord n w
+  -- the model's are such
+  model-valid : 1 ≤ n → byte 0 w ≡ 1 → byte 1 w ≡ 0 → valid ≡ true
+  model-valid some o t = rw (o, t) (lt-ltb 0 n some)
+
+  near-faults : 1 ≤ n → n ≤ 6 → byte 0 w < 8 → byte 1 w < 8 → (valid ≡ true) ⊎ (valid ≡ false) → eqb (faultsIn (cond valid (never + bare n (byte 1 w)) allBits) w) 0 ≡ isWord n w
   unfolding isWord
-  near-faults six o t (_⊎_.inl v) =
+  near-faults some six o t (_⊎_.inl v) =
       rw v
       (fault-bare n (byte 1 w) six (ltb-true (byte 1 w) n (and-right (leb 1 (byte 0 w) && leb (byte 0 w) 5) (ltb (byte 1 w) n) v)) w
       ∙ rw (lt-ltb (byte 0 w) 8 o, lt-ltb (byte 1 w) 8 t))
-  near-faults six o t (_⊎_.inr v) = rw v (fault-all w)
+  near-faults some six o t (_⊎_.inr v) =
+      rw v
+      (ne-eqb (faultsIn allBits w) 0 (λ q. clash valid (model-valid some (all-none w 0 (omega arith) q) (all-none w 1 (omega arith) q)) v))
+
+  near-asked : (h : ℕ) → 1 ≤ n → n ≤ 6 → byte 0 w < 8 → byte 1 w < 8 → h ≡ byte 0 w + 8 * byte 1 w → eqb (faultsIn (asked n h) w) 0 ≡ isWord n w
+  unfolding asked
+  near-asked h some six o t head =
+      let operator : h % 8 ≡ byte 0 w = ap (λ (x : ℕ). x % 8) head ∙ low-mod (byte 1 w) o in
+      let target : h / 8 ≡ byte 1 w = ap (λ (x : ℕ). x / 8) head ∙ low-div (byte 1 w) o in
+      rw (operator, target) (near-faults some six o t (decide valid))
 
   -- what is asked by operator and target decides
-  pub word-faults : (h : ℕ) → n ≤ 6 → (byte 0 w < 8 → byte 1 w < 8 → h ≡ byte 0 w + 8 * byte 1 w) → eqb (faultsIn (asked n h) w) 0 ≡ isWord n w
-  unfolding asked
-  word-faults h six head = go (decide (ltb (byte 0 w) 8)) (decide (ltb (byte 1 w) 8))
+  pub word-faults : (h : ℕ) → linesOk n ≡ true → (byte 0 w < 8 → byte 1 w < 8 → h ≡ byte 0 w + 8 * byte 1 w) → eqb (faultsIn (asked n h) w) 0 ≡ isWord n w
+  word-faults h ok head = go (lines-are n ok .1) (decide (ltb (byte 0 w) 8)) (decide (ltb (byte 1 w) 8))
     where
-      go : (ltb (byte 0 w) 8 ≡ true) ⊎ (ltb (byte 0 w) 8 ≡ false) → (ltb (byte 1 w) 8 ≡ true) ⊎ (ltb (byte 1 w) 8 ≡ false)
-          → eqb (faultsIn (cond ((leb 1 (h % 8) && leb (h % 8) 5) && ltb (h / 8) n) (bare n (h / 8)) 18446744073709551615) w) 0 ≡ isWord n w
-      go (_⊎_.inr p) q = (let le : 8 ≤ byte 0 w = omega (arith, ltb-false (byte 0 w) 8 p) in fault-far _ w 0 (omega arith) le ∙ sym (far-operator le))
-      go (_⊎_.inl p) (_⊎_.inr q) = (let le : 8 ≤ byte 1 w = omega (arith, ltb-false (byte 1 w) 8 q) in fault-far _ w 1 (omega arith) le ∙ sym (far-target six le))
-      go (_⊎_.inl p) (_⊎_.inl q) =
+      go : n ≤ 6 → (ltb (byte 0 w) 8 ≡ true) ⊎ (ltb (byte 0 w) 8 ≡ false) → (ltb (byte 1 w) 8 ≡ true) ⊎ (ltb (byte 1 w) 8 ≡ false) → eqb (faultsIn (asked n h) w) 0 ≡ isWord n w
+      go six (_⊎_.inr p) q = (let le : 8 ≤ byte 0 w = omega (arith, ltb-false (byte 0 w) 8 p) in fault-far n h six w 0 (omega arith) le ∙ sym (far-operator le))
+      go six (_⊎_.inl p) (_⊎_.inr q) = (let le : 8 ≤ byte 1 w = omega (arith, ltb-false (byte 1 w) 8 q) in fault-far n h six w 1 (omega arith) le ∙ sym (far-target six le))
+      go six (_⊎_.inl p) (_⊎_.inl q) =
           let o = ltb-true (byte 0 w) 8 p in
           let t = ltb-true (byte 1 w) 8 q in
-          let operator : h % 8 ≡ byte 0 w = ap (λ (x : ℕ). x % 8) (head o t) ∙ low-mod (byte 1 w) o in
-          let target : h / 8 ≡ byte 1 w = ap (λ (x : ℕ). x / 8) (head o t) ∙ low-div (byte 1 w) o in
-          rw (operator, target) (near-faults six o t (decide valid))
+          near-asked h (lines-are n ok .0) six o t (head o t)
 
   -- a gate's control bytes are below 4
   pub word-low : isWord n w ≡ true → Low w

@@ -4,7 +4,7 @@ use mathlib.Core.Path.{_≡_}
 use mathlib.Core.Bool.{Bool, cond, _&&_}
 use mathlib.Core.List.{List, [], _∷_}
 use lib.Dec.{eqb, leb, ltb}
-use lib.Bits.{bitAnd, bitOr, bitXor}
+use lib.Bits.{bitAnd, bitXor}
 use lib.ListN.{getD}
 use Rattle.ranges.specs.Ranges.{every}
 use Rattle.digits.specs.Digits.{digit, put, pack}
@@ -40,13 +40,26 @@ gateOf w = record { operator = byte 0 w; target = byte 1 w; controls = pack 4 (�
 unfoldable pub bare : ℕ → ℕ → ℕ
 bare n t = 65536 * (3311470314243 / 256 ^ n * 256 ^ n + 3 * 256 ^ t)
 
--- the bits that are asked of a record by its operator and 8 times its target: those of `bare`, or all where no gate on n lines has these
-unfoldable pub asked : ℕ → ℕ → ℕ
-asked n h = cond ((leb 1 (h % 8) && leb (h % 8) 5) && ltb (h / 8) n) (bare n (h / 8)) 18446744073709551615
+-- the bits that no gate has: an operator and a target are below 8, control bytes below 4
+abbrev pub never : ℕ
+never = 18229723555195320568
 
--- the bits that no gate has (an operator and a target are below 8, control bytes below 4), and those of a that are missing
+abbrev pub allBits : ℕ
+allBits = 18446744073709551615
+
+-- C1 on x0 without controls, a gate on any board: it has no bit of `never`, and every bit of `bare`
+abbrev pub model : ℕ
+model = 217020518514229249
+
+-- the bits that are asked of a record by its operator and 8 times its target: those of `never` and of `bare`, which share none; or all where no gate on
+-- n lines has these two. No word but the model itself has what is then asked, and the model's two are a gate's
+unfoldable pub asked : ℕ → ℕ → ℕ
+asked n h = cond ((leb 1 (h % 8) && leb (h % 8) 5) && ltb (h / 8) n) (never + bare n (h / 8)) allBits
+
+-- the bits of a in which it is not as the model: those of `never` that it has, and those of `bare` that are missing. The low bits of operator and target,
+-- in which gates differ, are asked only where all bits are
 unfoldable pub faultsIn : ℕ → ℕ → ℕ
-faultsIn a w = bitOr (bitAnd w 18229723555195320568) (bitAnd (bitXor w a) a)
+faultsIn a w = bitAnd (bitXor w model) a
 
 -- its control bytes are below 4, as a gate's are
 pub record Low (w : ℕ) : Type 0 where

@@ -1,12 +1,13 @@
 // A record as one number of 64 bits, its first byte lowest: all bytes are looked at at once.
 ghost use mathlib.Core.Path.{_≡_};
-ghost use mathlib.Core.Bool.{cond};
+ghost use mathlib.Core.Bool.{true, cond};
 ghost use Prim.Native.Nat.{ℕ, _+_, _*_, _/_, _≤_, _<_, _^_};
 ghost use lib.Dec.{eqb};
 ghost use lib.ListN.{length, getD};
 ghost use lib.Seq.{sets};
 ghost use Rattle.ranges.specs.Ranges.{span};
 ghost use Rattle.digits.specs.Digits.{put, pack};
+ghost use Rattle.card.specs.Card.{linesOk};
 ghost use Rattle.gates.specs.Gates.{act, inverseOp};
 ghost use Rattle.gates.specs.Records.{recordOf};
 ghost use Rattle.gates.specs.Words.{byte, Word, bytesIn, bare, asked, faultsIn, isWord, gateOf, Low, Held, controlMarks, otherMarks, Spread, firesIn, movedBy};
@@ -71,7 +72,7 @@ fn bare_bytes(n: u64, t: u64) -> u64
     65536 * (0x030303030303 / lines * lines + 3 * weight(t))
 }
 
-// The bits that a record with this head must have: all where no gate has the head.
+// The bits that are asked of a record with this head: all where no gate has the head.
 fn ask(n: u64, head: u64) -> u64
     requires { ⌜ n ≤ 6 ⌝ }
     ensures { λ r. ⌜ r ≡ asked n head ⌝ }
@@ -87,12 +88,12 @@ fn ask(n: u64, head: u64) -> u64
     if 5 < operator {
         return 0xffffffffffffffff;
     }
-    bare_bytes(n, target)
+    0xfcfcfcfcfcfcf8f8 + bare_bytes(n, target)
 }
 
 // What is asked by each head, for those who look at many records.
 pub fn write_asked(lines: u8, row: &mut [u64])
-    requires { ⌜ (lines ≤ 6) × (length (now row) ≡ 64) ⌝ }
+    requires { ⌜ (linesOk lines ≡ true) × (length (now row) ≡ 64) ⌝ }
     ensures { λ _. ⌜ now (row .exit) ≡ span (asked lines) 0 64 ⌝ }
 {
     let mut head: usize = 0;
@@ -110,16 +111,16 @@ fn head_of(w: u64) -> u64
     (low + low / 32) % 64
 }
 
-// The bits that no gate has, and those that are asked and missing.
+// The bits that are asked and are not those of C1 on x0 without controls, which is a gate on any board.
 fn faults(a: u64, w: u64) -> u64
     ensures { λ r. ⌜ r ≡ faultsIn a w ⌝ }
 {
-    w & 0xfcfcfcfcfcfcf8f8 | (w ^ a) & a
+    (w ^ 0x0303030303030001) & a
 }
 
 // The word is a gate on so many lines.
 pub fn is_gate(lines: u8, w: u64) -> bool
-    requires { ⌜ lines ≤ 6 ⌝ }
+    requires { ⌜ linesOk lines ≡ true ⌝ }
     ensures { λ r. ⌜ r ≡ isWord lines w ⌝ }
 {
     faults(ask(lines as u64, head_of(w)), w) == 0
@@ -127,7 +128,7 @@ pub fn is_gate(lines: u8, w: u64) -> bool
 
 // The same by the row of what is asked: 0 for a gate.
 pub fn faults_by(lines: u8, row: &[u64], w: u64) -> u64
-    requires { ⌜ (lines ≤ 6) × (now row ≡ span (asked lines) 0 64) ⌝ }
+    requires { ⌜ (linesOk lines ≡ true) × (now row ≡ span (asked lines) 0 64) ⌝ }
     ensures { λ r. ⌜ eqb r 0 ≡ isWord lines w ⌝ }
 {
     faults(row[head_of(w) as usize], w)

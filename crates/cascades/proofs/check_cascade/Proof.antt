@@ -4,7 +4,7 @@ use mathlib.Core.Bool.{true}
 use lib.ListN.{length}
 use borrow.Author.Tests.{not-true, not-false}
 use Rattle.card.specs.Card.{linesOk}
-use Rattle.card.proofs.Cards.{lines-are, no-lines, good-lines}
+use Rattle.card.proofs.Cards.{no-lines, good-lines}
 use Rattle.cascades.specs.Answers.{lengthOk, checkAnswer}
 use Rattle.cascades.proofs.Answers.{sound-length, sound-at, sound-none}
 use borrow.Author.Needs.{needs}
@@ -34,7 +34,7 @@ unfolding checkAnswer
 returns-2 c = sym (good-lines _ _ (six (c .before .before)) ∙ sound-length _ _ _ (sym (c .before .length-ok .ensures) ∙ not-true _ (c .if2 .taken)))
 
 first-bad-requires : tie.Need-first-bad-requires
-first-bad-requires c κs = lines-are _ (six (c .before .before)) .1
+first-bad-requires c κs = six (c .before .before)
 
 returns-3 : tie.Need-returns-3
 unfolding checkAnswer

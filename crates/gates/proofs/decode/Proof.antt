@@ -34,7 +34,7 @@ word-at-requires : tie.Need-word-at-requires
 word-at-requires c κs = search needs
 
 is-gate-requires : tie.Need-is-gate-requires
-is-gate-requires c κs = lines-are _ (six (c .before .before .before)) .1
+is-gate-requires c κs = six (c .before .before .before)
 
 record-of-requires : tie.Need-record-of-requires
 record-of-requires c κs = λ e. word-read _ _ (lines-are _ (six (c .before .before .before .before)) .1) (sym (c .is-gate .ensures) ∙ e)

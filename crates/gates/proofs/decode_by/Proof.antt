@@ -10,7 +10,7 @@ word-at-requires : tie.Need-word-at-requires
 word-at-requires c κs = search needs
 
 faults-by-requires : tie.Need-faults-by-requires
-faults-by-requires c κs = (lines-are _ (c .before .before .before .pre .0) .1, c .before .before .before .pre .1)
+faults-by-requires c κs = (c .before .before .before .pre .0, c .before .before .before .pre .1)
 
 record-of-requires : tie.Need-record-of-requires
 record-of-requires c κs = λ e. word-read _ _ (lines-are _ (c .before .before .before .before .pre .0) .1) (sym (c .faults-by .ensures) ∙ e)

@@ -7,7 +7,7 @@ use borrow.Author.Tests.{not-true, not-false}
 use native.Mathlib.Omega.{arith}
 use borrow.Author.Needs.{needs}
 use Rattle.card.specs.Card.{linesOk}
-use Rattle.card.proofs.Cards.{lines-are, no-lines, good-lines}
+use Rattle.card.proofs.Cards.{no-lines, good-lines}
 use Rattle.gates.proofs.Records.{gives, gives-no}
 use Rattle.cascades.specs.Answers.{lengthOk}
 use Rattle.cascades.proofs.Answers.{Passing, passing-start, passing-next, sound-length, sound-bad, sound-good, sound-none}
@@ -41,7 +41,7 @@ returns-2 : tie.Need-returns-2 Inv-loop μ-loop
 returns-2 c = sym (good-lines _ _ (six (c .before .before)) ∙ sound-length _ _ _ (sym (c .before .length-ok .ensures) ∙ not-true _ (c .if2 .taken)))
 
 many-gates-requires : tie.Need-many-gates-requires Inv-loop μ-loop
-many-gates-requires c κs = lines-are _ (six (c .before .before)) .1
+many-gates-requires c κs = six (c .before .before)
 
 returns-3 : tie.Need-returns-3 Inv-loop μ-loop
 returns-3 c =

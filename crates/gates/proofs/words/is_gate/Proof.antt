@@ -1,4 +1,5 @@
 -- `gates::words::is_gate` meets its contract: what is asked by the head decides. Assumes nothing.
+use Rattle.card.proofs.Cards.{lines-are}
 use Rattle.gates.proofs.Bytes.{word-faults}
 use borrow.Author.Needs.{needs}
 use Rattle.gates.proofs.words.is_gate.Statement.{statement}
@@ -8,7 +9,7 @@ head-of-requires : tie.Need-head-of-requires
 head-of-requires c κs = search needs
 
 ask-requires : tie.Need-ask-requires
-ask-requires c κs = search needs
+ask-requires c κs = lines-are _ (c .before .pre) .1
 
 faults-requires : tie.Need-faults-requires
 faults-requires c κs = search needs

@@ -4,6 +4,7 @@ use Prim.Native.Nat.{_-_, _≤_}
 use lib.ListN.{length}
 use native.Mathlib.Omega.{arith}
 use Rattle.ranges.proofs.Fills.{Filling, filling-start, filling-length, filling-next, filling-end}
+use Rattle.card.proofs.Cards.{lines-are}
 use Rattle.gates.specs.Words.{asked}
 use borrow.Author.Needs.{needs}
 use Rattle.gates.proofs.words.write_asked.Statement.{statement}
@@ -20,7 +21,7 @@ module _ (c : tie.At-loop Inv-loop μ-loop) where
   long = filling-length _ _ _ _ (c .loop .inv .2) ∙ c .loop .inv .1
 
 loop-holds : tie.Need-loop-holds Inv-loop μ-loop
-loop-holds c = (c .before .pre .0, c .before .pre .1, filling-start _ _)
+loop-holds c = (lines-are _ (c .before .pre .0) .1, c .before .pre .1, filling-start _ _)
 
 ask-requires : tie.Need-ask-requires Inv-loop μ-loop
 ask-requires c κs = c .before .loop .inv .0
