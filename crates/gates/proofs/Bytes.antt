@@ -1,6 +1,6 @@
 -- Records as numbers: the bytes of a word, and the tests that look at all of them at once. What is finite is computed: a byte has 256 values, a board
 -- at most six lines. Assumes nothing.
-use mathlib.Core.Path.{_≡_, refl, sym, ap, _∙_}
+use mathlib.Core.Path.{_≡_, refl, sym, ap, ap₂, _∙_}
 use mathlib.Core.Bool.{Bool, true, false, cond, not, _&&_, _||_, and-false, and-assoc}
 use mathlib.Core.List.{List, [], _∷_}
 use mathlib.Core.Logic.{_⊎_, ⊎-elim}
@@ -10,8 +10,8 @@ use native.Mathlib.Omega.{arith}
 use lib.Dec.{eqb, leb, ltb}
 use lib.ListN.{length, getD, take, drop}
 use lib.Seq.{getD-take, getD-drop}
-use lib.Bits.{bitAnd, bitXor, and-le-r}
-use borrow.Author.Tests.{eqb-true, eqb-false, leb-true, ltb-true, ltb-false, eq-eqb, ne-eqb, not-true, le-leb, lt-leb, lt-ltb, le-ltb}
+use lib.Bits.{bitAnd, bitXor, and-le-r, xor-zero-r, xor-block}
+use borrow.Author.Tests.{eqb-true, leb-true, ltb-true, ltb-false, eq-eqb, ne-eqb, le-leb, lt-leb, lt-ltb, le-ltb}
 use Rattle.ranges.specs.Ranges.{every, sum}
 use Rattle.ranges.proofs.Bools.{and-left, and-right, decide, clash}
 use Rattle.ranges.proofs.Tests.{every-below, every-of, every-ext}
@@ -19,11 +19,13 @@ use Rattle.digits.specs.Digits.{digit, pack}
 use Rattle.digits.proofs.Digits.{digit-zero, digit-suc, digit-lt, digit-low, digit-up, low-div, low-mod}
 use Rattle.digits.proofs.Packs.{pack-ext, pack-digits}
 use Rattle.digits.proofs.Bits.{digit-and, digit-xor, digit-of-zero, zero-digits}
+use Rattle.gates.specs.Gates.{inverseOp}
 use Rattle.gates.specs.Records.{lineOk, linesOkAt, packedAt, isRecord, gateAt, asRecord, decoded}
 use Rattle.gates.specs.declared.Record.{Record}
 use Rattle.card.specs.Card.{linesOk}
 use Rattle.card.proofs.Cards.{lines-are}
-use Rattle.gates.proofs.Records.{line-lt}
+use Rattle.gates.proofs.Operators.{inverse-bits}
+use Rattle.gates.proofs.Records.{reads, line-lt}
 use Rattle.gates.specs.Words.{byte, Word, bytesIn, linesOkIn, isWord, gateOf, bare, never, allBits, model, asked, faultsIn, Low}
 
 -- ---- what is computed
@@ -274,6 +276,23 @@ low-replaced x w lt =
     let next : (k : ℕ) → byte (suc k) (x + 256 * (w / 256)) ≡ byte (suc k) w = λ k. next-byte k x (w / 256) lt ∙ sym (digit-suc 256 k w) in
     rw (low-byte x (w / 256) lt, next 0, next 1, next 2, next 3, next 4, next 5, next 6)
 
+-- bits of the lowest byte turned over
+low-xor : (x q m : ℕ) → x < 256 → m < 256 → bitXor (x + 256 * q) m ≡ bitXor x m + 256 * q
+low-xor x q m lx lm =
+    let whole : x + 256 * q ≡ q * 2 ^ 8 + x = omega arith in
+    let low : m ≡ 0 * 2 ^ 8 + m = omega arith in
+    let at-once = xor-block 8 q 0 x m lx lm in
+    ap₂ bitXor whole low ∙ at-once ∙ rw xor-zero-r (omega arith)
+
+-- the operator's inverse in its place
+pub inverse-word : (w : ℕ) → 1 ≤ byte 0 w → byte 0 w ≤ 5 → bitXor w (3 * ((w % 8 + 5) / 4 % 2)) ≡ inverseOp (byte 0 w) + 256 * (w / 256)
+inverse-word w lo hi =
+    let x : ℕ = byte 0 w in
+    let whole : w ≡ x + 256 * (w / 256) = omega (arith, digit-zero 256 w) in
+    let low : w % 8 ≡ x % 8 = omega (arith, whole) in
+    let m : ℕ = 3 * ((x % 8 + 5) / 4 % 2) in
+    rw low (ap (λ (y : ℕ). bitXor y m) whole ∙ low-xor x (w / 256) m (omega (arith, hi)) (omega arith) ∙ rw (inverse-bits x lo hi))
+
 module _ (a b c0 c1 c2 c3 c4 c5 : ℕ) (la : a < 256) (lb : b < 256) (l0 : c0 < 256) (l1 : c1 < 256) (l2 : c2 < 256) (l3 : c3 < 256) (l4 : c4 < 256) (l5 : c5 < 256) where
   pub eight-bytes : bytesIn (a + 256 * (b + 256 * (c0 + 256 * (c1 + 256 * (c2 + 256 * (c3 + 256 * (c4 + 256 * c5))))))) ≡ a ∷ b ∷ c0 ∷ c1 ∷ c2 ∷ c3 ∷ c4 ∷ c5 ∷ []
   unfolding bytesIn
@@ -327,6 +346,12 @@ module _ (b : List ℕ) (at w : ℕ) (read : Word b at w) where
 
   operator-byte : byte 0 w ≡ getD b at 0
   operator-byte = rw add-zero at (read .bytes 0 (omega arith))
+
+  -- a gate's operator is one of the five
+  pub operator-is : (n : ℕ) → isRecord n b at ≡ true → (1 ≤ byte 0 w) × (byte 0 w ≤ 5)
+  operator-is n e =
+      let r = reads n b at e in
+      (rw operator-byte (r .op-low), rw operator-byte (r .op-high))
 
   pub word-is : (n : ℕ) → at + 8 ≤ length b → isRecord n b at ≡ isWord n w
   unfolding isRecord isWord linesOkAt linesOkIn

@@ -2,10 +2,11 @@
 use mathlib.Core.Path.{_≡_, refl}
 use mathlib.Core.Bool.{Bool, true, false, cond}
 use mathlib.Core.List.{List, [], _∷_, map}
-use Prim.Native.Nat.{ℕ, zero, suc, _+_, _*_, _%_, _≤_, _<_}
+use Prim.Native.Nat.{ℕ, zero, suc, _+_, _*_, _/_, _%_, _≤_, _<_}
 use native.Mathlib.Nat.{mod-lt}
 use native.Mathlib.Omega.{arith}
 use lib.Dec.{ltb}
+use lib.Bits.{bitXor}
 use Rattle.digits.proofs.Three.{three}
 use Rattle.gates.specs.Gates.{act, inverseOp}
 
@@ -56,3 +57,8 @@ inverse-is-op = five (λ o. (1 ≤ inverseOp o) × (inverseOp o ≤ 5)) (omega a
 pub inverse-twice : (o : ℕ) → 1 ≤ o → o ≤ 5 → inverseOp (inverseOp o) ≡ o
 unfolding inverseOp
 inverse-twice = five (λ o. inverseOp (inverseOp o) ≡ o) refl refl refl refl refl
+
+-- the inverse by its bits: adding 5 leaves the bit of value 4 set for C1 and C2 alone
+pub inverse-bits : (o : ℕ) → 1 ≤ o → o ≤ 5 → bitXor o (3 * ((o % 8 + 5) / 4 % 2)) ≡ inverseOp o
+unfolding inverseOp
+inverse-bits = five (λ o. bitXor o (3 * ((o % 8 + 5) / 4 % 2)) ≡ inverseOp o) refl refl refl refl refl

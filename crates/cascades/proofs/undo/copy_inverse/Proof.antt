@@ -1,5 +1,6 @@
 -- `cascades::undo::copy_inverse` meets its contract: the word with the other operator is the record of the inverse. Assumes nothing.
 use mathlib.Core.Path.{_∙_}
+use Rattle.gates.proofs.Bytes.{operator-is}
 use Rattle.cascades.proofs.Stored.{word-inverse}
 use borrow.Author.Needs.{needs}
 use Rattle.cascades.proofs.undo.copy_inverse.Statement.{statement}
@@ -9,7 +10,7 @@ word-at-requires : tie.Need-word-at-requires
 word-at-requires c κs = search needs
 
 invert-word-requires : tie.Need-invert-word-requires
-invert-word-requires c κs = search needs
+invert-word-requires c κs = operator-is _ _ _ (c .word-at .ensures) _ (c .before .before .before .pre .0)
 
 store-requires : tie.Need-store-requires
 store-requires c κs = search needs
