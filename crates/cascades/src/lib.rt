@@ -9,7 +9,7 @@ ghost use Rattle.gates.specs.Words.{asked};
 ghost use Rattle.cascades.specs.Cascades.{gatesOf, ran};
 ghost use Rattle.ranges.specs.Ranges.{span};
 ghost use Rattle.cascades.specs.Prices.{countedPrice, tallied, cascadePrice};
-ghost use Rattle.cascades.specs.Answers.{countedAs, ranAs, pricedAs, sound, checkAnswer, runAnswer, invertAnswer, invertRoom, priceAnswer};
+ghost use Rattle.cascades.specs.Answers.{countedAs, ranAs, pricedAs, lengthOk, sound, checkAnswer, runAnswer, invertAnswer, invertRoom, priceAnswer};
 
 pub mod lengths;
 mod prices;
@@ -147,7 +147,8 @@ pub fn invert(lines: u8, cascade: &[u8], room: &mut [u8]) -> Counted
     }
 }
 
-// The sum of the gates' prices, with refusals 6 and 7 on the way: one pass, by rows of what is asked of records, what controls add, and prices.
+// The sum of the gates' prices, with refusal 7 on the way: one pass, by rows of what is asked of records, what controls add, and prices. The length was
+// tested before the rows were made.
 fn price_by(
     lines: u8,
     value: u8,
@@ -156,16 +157,10 @@ fn price_by(
     tallies: &[u8],
     costs: &[u32],
 ) -> Priced
-    requires { ⌜ (linesOk lines ≡ true) × (value ≤ 2) × (now row ≡ span (asked lines) 0 64) ⌝ }
-    requires { ⌜ (now tallies ≡ span (tallied value) 0 64) × (now costs ≡ span countedPrice 0 64) ⌝ }
+    requires { ⌜ (linesOk lines ≡ true) × (value ≤ 2) × (lengthOk (length (now cascade)) ≡ true) ⌝ }
+    requires { ⌜ (now row ≡ span (asked lines) 0 64) × (now tallies ≡ span (tallied value) 0 64) × (now costs ≡ span countedPrice 0 64) ⌝ }
     ensures { λ r. ⌜ pricedAs r ≡ sound lines (now (cascade .entry)) (accepted (cascadePrice value (gatesOf (now (cascade .entry))) ∷ [])) ⌝ }
 {
-    if !lengths::length_ok(cascade.len()) {
-        return Priced::Refused {
-            number: 6,
-            place: 0,
-        };
-    }
     let m = cascade.len() / 8;
     let mut cost: u32 = 0;
     let mut i: usize = 0;
@@ -189,7 +184,7 @@ fn price_by(
 
 // The same, with rows of its own.
 fn price_on(lines: u8, value: u8, cascade: &[u8]) -> Priced
-    requires { ⌜ (linesOk lines ≡ true) × (value ≤ 2) ⌝ }
+    requires { ⌜ (linesOk lines ≡ true) × (value ≤ 2) × (lengthOk (length (now cascade)) ≡ true) ⌝ }
     ensures { λ r. ⌜ pricedAs r ≡ sound lines (now (cascade .entry)) (accepted (cascadePrice value (gatesOf (now (cascade .entry))) ∷ [])) ⌝ }
 {
     let mut row = [0u64; 64];
@@ -214,6 +209,12 @@ pub fn price(lines: u8, value: u8, cascade: &[u8]) -> Priced
     if 2 < value {
         return Priced::Refused {
             number: 10,
+            place: 0,
+        };
+    }
+    if !lengths::length_ok(cascade.len()) {
+        return Priced::Refused {
+            number: 6,
             place: 0,
         };
     }
