@@ -4,7 +4,7 @@ use mathlib.Core.List.{map}
 use Rattle.ranges.specs.Ranges.{every, some, sum, first, span}
 use Rattle.ranges.specs.Lists.{total, through}
 use Rattle.digits.specs.Digits.{digit, put, pack}
-use Rattle.card.specs.Card.{refusing, linesOk, onLines, after, laid}
+use Rattle.card.specs.Card.{refusing, linesOk, onLines, after}
 use Rattle.gates.specs.Gates.{act, inverseOp, holds, firesOn, applied, inverse}
 use Rattle.gates.specs.Records.{lineOk, linesOkAt, packedAt, isRecord, gateAt, recordOf}
 use Rattle.tables.specs.Tables.{tooLarge, repeated, firstLarge, firstRepeated, tabled, checkTableAnswer}

@@ -1,7 +1,7 @@
 -- Demand 3. An accepted table's cascade stays within the bound. Tidying a well-formed cascade keeps what it computes, raises neither gate count nor cost,
 -- ends where no open pair fits a rule, and reports the procedure's rule uses, at most gates plus controls given. Assumes nothing.
 use Prim.Native.Nat.{ℕ, _-_, _*_, _/_, _^_, _≤_, _<_}
-use mathlib.Core.Path.{_≡_, refl, sym, ap, _∙_}
+use mathlib.Core.Path.{_≡_}
 use mathlib.Core.Bool.{true, false}
 use mathlib.Core.List.{List, [], _∷_}
 use lib.ListN.{length}
@@ -11,13 +11,12 @@ use Rattle.gates.specs.declared.Gate.{Gate}
 use Rattle.tables.specs.Permutations.{Permutation}
 use Rattle.cascades.specs.Cascades.{records, gatesOf, ran, Cascade}
 use Rattle.cascades.specs.Prices.{cascadePrice}
-use Rattle.cascades.specs.Answers.{checkAnswer}
 use Rattle.cascades.proofs.Cascades.{whole-cascade}
 use Rattle.cascades.proofs.Answers.{check-whole}
 use Rattle.synthesis.specs.Synthesis.{bound, synthesized}
 use Rattle.synthesis.proofs.Synthesis.{synthesized-bound}
 use Rattle.rules.specs.Rules.{fits}
-use Rattle.rules.specs.Tidying.{gate, isOpen, Tidied, size, tidied, tidyAnswer}
+use Rattle.rules.specs.Tidying.{gate, isOpen, size, tidied, tidyAnswer}
 use Rattle.rules.proofs.Endings.{Procedure}
 use Rattle.rules.proofs.Promises.{tidied-keeps, tidied-count, tidied-cost, tidied-cascade, tidied-ends, tidied-steps, tidied-few}
 use Rattle.demands.proofs.One.{check-cascade, tidy}

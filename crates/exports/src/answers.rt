@@ -1,7 +1,6 @@
 // Each kind of answer as numbers.
 ghost use mathlib.Core.Path.{_≡_};
 ghost use mathlib.Core.List.{_∷_, []};
-ghost use Prim.Native.Nat.{_<_};
 ghost use Rattle.card.specs.Card.{Answer.accepted, Answer.refused};
 ghost use Rattle.tables.specs.Answers.{checkedAs};
 ghost use Rattle.cascades.specs.Answers.{countedAs, ranAs, pricedAs};

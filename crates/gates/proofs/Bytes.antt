@@ -376,28 +376,35 @@ module _ (b : List ℕ) (at w : ℕ) (read : Word b at w) where
 
 -- ---- its control bytes packed
 
--- three control bytes above what is low, each beside the two above it
+-- times 4161, which is 4096 and 64 and 1: from bit 12 up, and from bit 36 up, stand three control bytes side by side
 triple-lt : (a b c : ℕ) → a < 4 → b < 4 → c < 4 → a + 4 * b + 16 * c < 64
 triple-lt a b c la lb lc = omega arith
+
+below-low : (a b : ℕ) → a < 4 → b < 4 → 65 * a + 256 * b < 4096
+below-low a b la lb = omega arith
 
 below-up : (a b c d e : ℕ) → a < 4 → b < 4 → c < 4 → d < 4 → e < 4 → a + 260 * b + 66576 * c + 266240 * d + 1048576 * e < 16777216
 below-up a b c d e la lb lc ld le = omega arith
 
-triples : (a b c d e f : ℕ) → a + 4 * b + 16 * c + 64 * (d + 4 * e + 16 * f) ≡ a + 4 * b + 16 * c + 64 * d + 256 * e + 1024 * f
+triples : (a b c d e f : ℕ) → a + 4 * b + 16 * c + 64 * (d + 4 * e + 16 * f) ≡ a * 1 + (b * 4 + (c * 16 + (d * 64 + (e * 256 + (f * 1024 + 0)))))
 triples a b c d e f = omega arith
+
+up-up : (s : ℕ) → s / 68719476736 ≡ s / 4096 / 16777216
+up-up s = omega arith
 
 -- the first lowest
 module _ (a b c d e f : ℕ) (la : a < 4) (lb : b < 4) (lc : c < 4) (ld : d < 4) (le : e < 4) (lf : f < 4) where
-  six-packed : (x s : ℕ) → x ≡ a + 256 * (b + 256 * (c + 256 * (d + 256 * (e + 256 * f)))) → s ≡ x + x / 64 + x / 4096
-      → s % 64 + 64 * (s / 16777216 % 64) ≡ a + 4 * b + 16 * c + 64 * d + 256 * e + 1024 * f
+  six-packed : (x s : ℕ) → x ≡ a + 256 * (b + 256 * (c + 256 * (d + 256 * (e + 256 * f)))) → s ≡ 4161 * x
+      → s / 4096 % 64 + 64 * (s / 68719476736 % 64) ≡ a * 1 + (b * 4 + (c * 16 + (d * 64 + (e * 256 + (f * 1024 + 0)))))
   six-packed x s ex es =
-      let u : x / 64 ≡ 4 * (b + 256 * (c + 256 * (d + 256 * (e + 256 * f)))) = omega (arith, ex) in
-      let v : x / 4096 ≡ 16 * (c + 256 * (d + 256 * (e + 256 * f))) = omega (arith, ex) in
-      let low : s ≡ a + 4 * b + 16 * c + 64 * (4 * b + 1040 * c + 266304 * d + 68173824 * e + 17452498944 * f) = omega (arith, ex, es, u, v) in
-      let high : s ≡ a + 260 * b + 66576 * c + 266240 * d + 1048576 * e + 16777216 * (d + 4 * e + 16 * f + 64 * (4 * e + 1040 * f)) = omega (arith, low) in
-      let first : s % 64 ≡ a + 4 * b + 16 * c = ap (λ (z : ℕ). z % 64) low ∙ low-mod (4 * b + 1040 * c + 266304 * d + 68173824 * e + 17452498944 * f) (triple-lt a b c la lb lc) in
-      let up : s / 16777216 ≡ d + 4 * e + 16 * f + 64 * (4 * e + 1040 * f) = ap (λ (z : ℕ). z / 16777216) high ∙ low-div (d + 4 * e + 16 * f + 64 * (4 * e + 1040 * f)) (below-up a b c d e la lb lc ld le) in
-      let second : s / 16777216 % 64 ≡ d + 4 * e + 16 * f = ap (λ (z : ℕ). z % 64) up ∙ low-mod (4 * e + 1040 * f) (triple-lt d e f ld le lf) in
+      let q : ℕ = 4 * b + 1040 * c + 266304 * d + 68173824 * e + 17452498944 * f in
+      let whole : s ≡ 65 * a + 256 * b + 4096 * (a + 4 * b + 16 * c + 64 * q) = omega (arith, ex, es) in
+      let low : s / 4096 ≡ a + 4 * b + 16 * c + 64 * q = ap (λ (z : ℕ). z / 4096) whole ∙ low-div (a + 4 * b + 16 * c + 64 * q) (below-low a b la lb) in
+      let high : s / 4096 ≡ a + 260 * b + 66576 * c + 266240 * d + 1048576 * e + 16777216 * (d + 4 * e + 16 * f + 64 * (4 * e + 1040 * f)) = low ∙ omega arith in
+      let first : s / 4096 % 64 ≡ a + 4 * b + 16 * c = ap (λ (z : ℕ). z % 64) low ∙ low-mod q (triple-lt a b c la lb lc) in
+      let up : s / 68719476736 ≡ d + 4 * e + 16 * f + 64 * (4 * e + 1040 * f) =
+      up-up s ∙ ap (λ (z : ℕ). z / 16777216) high ∙ low-div (d + 4 * e + 16 * f + 64 * (4 * e + 1040 * f)) (below-up a b c d e la lb lc ld le) in
+      let second : s / 68719476736 % 64 ≡ d + 4 * e + 16 * f = ap (λ (z : ℕ). z % 64) up ∙ low-mod (4 * e + 1040 * f) (triple-lt d e f ld le lf) in
       rw (first, second) (triples a b c d e f)
 
 -- the six control bytes make up all above the first two bytes
@@ -408,54 +415,19 @@ six-up w lt =
     ∙ pack-ext 256 (λ k. digit 256 k (w / 65536)) (λ k. byte (2 + k) w) 6 (λ k l. byte-high k w)
     ∙ omega arith
 
--- what stands below the control bytes does not reach them
-small-below : (h a b : ℕ) → h < 2048 → a < 4 → b < 4 → h + h / 64 + h / 4096 + 1040 * a + 4096 * b < 65536
-small-below h a b lh la lb = omega arith
-
-five-up : (y : ℕ) → y / 65536 / 16777216 ≡ y / 1099511627776
-five-up y = omega arith
-
-beside-up : (w h a b r : ℕ) → w ≡ h + 65536 * (a + 256 * (b + 256 * r)) → h < 2048 → a < 4 → b < 4
-    → (w + w / 64 + w / 4096) / 65536 ≡ a + 256 * (b + 256 * r) + 4 * (b + 256 * r) + 16 * r
-beside-up w h a b r e lh la lb =
-    let u : w / 64 ≡ 1024 * (a + 256 * (b + 256 * r)) + h / 64 = omega arith in
-    let v : w / 4096 ≡ 16 * (a + 256 * (b + 256 * r)) + h / 4096 = omega arith in
-    let all : w + w / 64 + w / 4096 ≡ h + h / 64 + h / 4096 + 1040 * a + 4096 * b + 65536 * (a + 256 * (b + 256 * r) + 4 * (b + 256 * r) + 16 * r) = omega (arith, u, v, e) in
-    ap (λ (z : ℕ). z / 65536) all ∙ low-div (a + 256 * (b + 256 * r) + 4 * (b + 256 * r) + 16 * r) (small-below h a b lh la lb)
-
-beside-parts : (x a b r : ℕ) → x ≡ a + 256 * (b + 256 * r) → a < 4 → b < 4 → x + x / 64 + x / 4096 ≡ a + 256 * (b + 256 * r) + 4 * (b + 256 * r) + 16 * r
-beside-parts x a b r e la lb =
-    let u : x / 64 ≡ 4 * (b + 256 * r) = omega arith in
-    let v : x / 4096 ≡ 16 * r = omega arith in
-    rw (u, v, e)
-
-packed-sum : (a b c d e f : ℕ) → a + 4 * b + 16 * c + 64 * d + 256 * e + 1024 * f ≡ a * 1 + (b * 4 + (c * 16 + (d * 64 + (e * 256 + (f * 1024 + 0)))))
-packed-sum a b c d e f = omega arith
-
-module _ (w : ℕ) (low : Low w) where
-  -- a gate's word leaves room above
-  pub word-small : w < 256 ^ 8 → w < 288230376151711744
+module _ (w : ℕ) (low : Low w) (lt : w < 256 ^ 8) where
+  -- a gate's control bytes leave room above
+  pub controls-small : w / 65536 < 4398046511104
   unfolding digit
-  word-small lt =
+  controls-small =
       let last : w / 72057594037927936 % 256 < 4 = low .each 5 (omega arith) in
       omega (arith, lt, last)
 
-  pub packed-bytes : w < 256 ^ 8 → byte 1 w < 8
-      → (w + w / 64 + w / 4096) / 65536 % 64 + 64 * ((w + w / 64 + w / 4096) / 1099511627776 % 64) ≡ pack 4 (λ k. byte (2 + k) w) 6
+  pub packed-bytes : 4161 * (w / 65536) / 4096 % 64 + 64 * (4161 * (w / 65536) / 68719476736 % 64) ≡ pack 4 (λ k. byte (2 + k) w) 6
   unfolding pack sum
-  packed-bytes lt on =
-      let r : ℕ = byte 4 w + 256 * (byte 5 w + 256 * (byte 6 w + 256 * byte 7 w)) in
-      let x : ℕ = w / 65536 in
-      let up : x ≡ byte 2 w + 256 * (byte 3 w + 256 * r) = six-up w lt in
-      let down : w % 65536 < 2048 = omega (arith, rw byte-one at on) in
-      let whole : w ≡ w % 65536 + 65536 * (byte 2 w + 256 * (byte 3 w + 256 * r)) = omega (arith, up) in
-      let top : (w + w / 64 + w / 4096) / 65536 ≡ x + x / 64 + x / 4096 =
-      beside-up w (w % 65536) (byte 2 w) (byte 3 w) r whole down (low .each 0 (omega arith)) (low .each 1 (omega arith))
-      ∙ sym (beside-parts x (byte 2 w) (byte 3 w) r up (low .each 0 (omega arith)) (low .each 1 (omega arith))) in
-      rw (← five-up (w + w / 64 + w / 4096), top)
-      (six-packed (byte 2 w) (byte 3 w) (byte 4 w) (byte 5 w) (byte 6 w) (byte 7 w) (low .each 0 (omega arith)) (low .each 1 (omega arith)) (low .each 2 (omega arith))
-      (low .each 3 (omega arith)) (low .each 4 (omega arith)) (low .each 5 (omega arith)) x (x + x / 64 + x / 4096) up refl
-      ∙ packed-sum (byte 2 w) (byte 3 w) (byte 4 w) (byte 5 w) (byte 6 w) (byte 7 w))
+  packed-bytes =
+      six-packed (byte 2 w) (byte 3 w) (byte 4 w) (byte 5 w) (byte 6 w) (byte 7 w) (low .each 0 (omega arith)) (low .each 1 (omega arith)) (low .each 2 (omega arith))
+      (low .each 3 (omega arith)) (low .each 4 (omega arith)) (low .each 5 (omega arith)) (w / 65536) (4161 * (w / 65536)) (six-up w lt) refl
 
 -- ---- which gate a word is, or none
 
@@ -531,10 +503,6 @@ module _ (n w : ℕ) where
   word-on e =
       let ops : Bool = leb 1 (byte 0 w) && leb (byte 0 w) 5 in
       ltb-true (byte 1 w) n (and-right ops (ltb (byte 1 w) n) (and-left (ops && ltb (byte 1 w) n) (linesOkIn n (byte 1 w) w) e))
-
-  -- so it can be read
-  pub word-read : n ≤ 6 → isWord n w ≡ true → Low w × (byte 1 w < 8)
-  word-read six e = (word-low e, omega (arith, word-on e))
 
   pub gate-on : isWord n w ≡ true → gateOf w .target < n
   unfolding gateOf

@@ -8,7 +8,7 @@ ghost use Rattle.ranges.specs.Ranges.{span};
 ghost use Rattle.card.specs.Card.{linesOk};
 ghost use Rattle.gates.specs.Gates.{act, inverseOp};
 ghost use Rattle.gates.specs.Records.{asRecord, decoded, recordOf};
-ghost use Rattle.gates.specs.Words.{byte, Low, gateOf, asked};
+ghost use Rattle.gates.specs.Words.{Low, gateOf, asked};
 ghost use Rattle.gates.specs.declared.Record.{Record};
 
 pub mod words;
@@ -55,7 +55,7 @@ pub fn invert_op(operator: u8) -> u8
 
 // A word as a record, whether it is a gate being known.
 fn record_of(right: bool, w: u64, at: usize) -> Record
-    requires { ⌜ (right ≡ true → Low w × (byte 1 w < 8)) ⌝ }
+    requires { ⌜ (right ≡ true → Low w) ⌝ }
     ensures { λ r. ⌜ r ≡ cond right (asRecord (gateOf w)) (Record.Refused 7 at) ⌝ }
 {
     if !right {

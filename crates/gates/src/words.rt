@@ -134,18 +134,18 @@ pub fn faults_by(lines: u8, row: &[u64], w: u64) -> u64
     faults(row[head_of(w) as usize], w)
 }
 
-// The control bytes, packed in base 4: each is put beside the two above it. The operator and the target stay below them.
+// The control bytes, packed in base 4: 4161 is 4096 and 64 and 1, so that the product has each three side by side.
 fn packed_controls(w: u64) -> u64
-    requires { ⌜ Low w × (byte 1 w < 8) ⌝ }
+    requires { ⌜ Low w ⌝ }
     ensures { λ r. ⌜ (r ≡ pack 4 (λ k. byte (2 + k) w) 6) × (r < 4096) ⌝ }
 {
-    let beside = w + w / 64 + w / 4096;
-    beside / 65536 % 64 + 64 * (beside / 1099511627776 % 64)
+    let beside = 4161 * (w / 65536);
+    beside / 4096 % 64 + 64 * (beside / 68719476736 % 64)
 }
 
 // The gate that the word writes down.
 pub fn gate_of(w: u64) -> Gate
-    requires { ⌜ Low w × (byte 1 w < 8) ⌝ }
+    requires { ⌜ Low w ⌝ }
     ensures { λ r. ⌜ r ≡ gateOf w ⌝ }
 {
     Gate {

@@ -19,10 +19,10 @@ use Rattle.rules.specs.Places.{mayChange}
 use Rattle.rules.specs.Rules.{cancels, merges, fits, loosened, retuned}
 use Rattle.rules.specs.Tidying.{gate, firstJ, firstI, without, ruled}
 use Rattle.rules.proofs.Steps.{ruled-cancel, ruled-merge, ruled-reduce}
-use Rattle.rows.specs.Buffers.{isGap, Stands, kept, rank}
-use Rattle.rows.specs.Rows.{Quiet, Clear, Stops, Known, Low}
-use Rattle.rows.proofs.Gaps.{rank-all, rank-le, rank-mono, rank-rises, rank-lt, gate-kept, Standing, stands-at, rank-before, kept-set, kept-gone, gap-passed, gap-unfit}
-use Rattle.rows.proofs.Rows.{row, row-ends, row-stops, row-fits, row-hits}
+use Rattle.remembering.specs.Buffers.{isGap, Stands, kept, rank}
+use Rattle.remembering.specs.Rows.{Quiet, Clear, Stops, Known, Low}
+use Rattle.remembering.proofs.Gaps.{rank-all, rank-le, rank-mono, rank-rises, rank-lt, gate-kept, Standing, stands-at, rank-before, kept-set, kept-gone, gap-passed, gap-unfit}
+use Rattle.remembering.proofs.Rows.{row, row-ends, row-stops, row-fits, row-hits}
 use Rattle.tidying.specs.Searches.{PairAt}
 
 -- ---- rows

@@ -19,11 +19,11 @@ use Rattle.rules.specs.Tidying.{firstJ, firstI, ruled, untidy, step, Tidied, si
 use Rattle.rules.proofs.Weights.{control-count-le}
 use Rattle.rules.proofs.Steps.{stepped-size, step-stepped}
 use Rattle.rules.proofs.Endings.{afterSteps, after-none, after-one-more, one-answer, tidied-procedure}
-use Rattle.rows.specs.Buffers.{gatesIn, isGap, kept, rank, Holds}
-use Rattle.rows.specs.Rows.{Known, Low}
-use Rattle.rows.proofs.Gaps.{kept-all, rank-lt, rank-all, gate-real}
-use Rattle.rows.proofs.Buffers.{length-gates, holds-list, holds-bytes}
-use Rattle.rows.proofs.Rows.{known-start}
+use Rattle.remembering.specs.Buffers.{gatesIn, isGap, kept, rank, Holds}
+use Rattle.remembering.specs.Rows.{Known, Low}
+use Rattle.remembering.proofs.Gaps.{kept-all, rank-lt, rank-all, gate-real}
+use Rattle.remembering.proofs.Buffers.{length-gates, holds-list, holds-bytes}
+use Rattle.remembering.proofs.Rows.{known-start}
 use Rattle.tidying.specs.Searches.{TidiedIn, PairAt}
 use Rattle.tidying.proofs.Firsts.{First, first-at}
 

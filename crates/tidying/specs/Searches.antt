@@ -8,8 +8,8 @@ use Rattle.gates.specs.declared.Gate.{Gate}
 use Rattle.cascades.specs.Cascades.{records, gatesOf, bytesOf}
 use Rattle.rules.specs.Rules.{fits}
 use Rattle.rules.specs.Tidying.{gate, tidied}
-use Rattle.rows.specs.Buffers.{isGap}
-use Rattle.rows.specs.Rows.{Clear}
+use Rattle.remembering.specs.Buffers.{isGap}
+use Rattle.remembering.specs.Rows.{Clear}
 
 -- i, j is a pair of gates that fits, gate i being clear up to gate j; i is the length where there is none
 pub record PairAt (gs : List Gate) (i j : ℕ) : Type 0 where

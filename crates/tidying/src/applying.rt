@@ -3,9 +3,9 @@ ghost use mathlib.Core.Path.{_≡_};
 ghost use Prim.Native.Nat.{_≤_, _<_};
 ghost use lib.ListN.{set};
 ghost use Rattle.rules.specs.Tidying.{ruled};
-ghost use Rattle.rows.specs.Buffers.{gatesIn, gap, Stands, Holds, kept, rank};
-ghost use Rattle.rows.specs.Rows.{Known, Low, Reached};
-ghost use Rattle.rows.specs.Views.{Marked};
+ghost use Rattle.remembering.specs.Buffers.{gatesIn, gap, Stands, Holds, kept, rank};
+ghost use Rattle.remembering.specs.Rows.{Known, Low, Reached};
+ghost use Rattle.remembering.specs.Views.{Marked};
 ghost use Rattle.tidying.specs.Searches.{PairAt};
 use gates::Gate;
 
@@ -38,9 +38,9 @@ fn replace(
     ensures { λ q. ⌜ Known (set (gatesIn (now (b .entry)) m) p g) (now (far .exit)) × (q ≤ from) × Low (now (far .exit)) q ⌝ }
     ensures { λ _. ⌜ Reached (now (far .exit)) (now (reach .exit)) m × Marked (set (gatesIn (now (b .entry)) m) p g) (now (marks .exit)) ⌝ }
 {
-    let low = rows::memory::settle_rows(b, far, reach, marks, m, p, g, from);
+    let low = remembering::memory::settle_rows(b, far, reach, marks, m, p, g, from);
     gates::encode(g, b, 8 * p);
-    rows::views::forget_stretch(marks, p / 16);
+    remembering::views::forget_stretch(marks, p / 16);
     low
 }
 
@@ -84,8 +84,8 @@ pub fn apply_rule(
     ensures { λ q. ⌜ Known (gatesIn (now (b .exit)) m) (now (far .exit)) × (q ≤ m) × Low (now (far .exit)) q ⌝ }
     ensures { λ _. ⌜ Reached (now (far .exit)) (now (reach .exit)) m × Marked (gatesIn (now (b .exit)) m) (now (marks .exit)) ⌝ }
 {
-    let g = rows::buffer::read_gate(b, m, i);
-    let h = rows::buffer::read_gate(b, m, j);
+    let g = remembering::buffer::read_gate(b, m, i);
+    let h = remembering::buffer::read_gate(b, m, j);
     if rules::fitting::cancels_pair(g, h) {
         return replace_both(b, far, reach, marks, m, i, j, leave_gap(), leave_gap());
     }

@@ -5,7 +5,7 @@ ghost use lib.ListN.{length};
 ghost use Rattle.ranges.specs.Lists.{Each};
 ghost use Rattle.gates.specs.Gates.{IsGate};
 ghost use Rattle.cascades.specs.Cascades.{gatesOf};
-ghost use Rattle.rows.specs.Buffers.{Holds};
+ghost use Rattle.remembering.specs.Buffers.{Holds};
 ghost use Rattle.tidying.specs.Searches.{TidiedIn};
 
 // What is left of m gates, and how many steps it took.
@@ -26,10 +26,10 @@ fn repeat_steps(
     requires { ⌜ (length (now b) ≡ 8 * m) × (m ≤ 8000) × (m + 16 ≤ length (now far)) × (m + 256 ≤ 16 * length (now reach)) × (m + 16 ≤ 8 * length (now marks)) ⌝ }
     ensures { λ r. ⌜ TidiedIn (now (b .entry)) (now (b .exit)) (r .left) (r .steps) ⌝ }
 {
-    rows::memory::start_rows(far, m);
+    remembering::memory::start_rows(far, m);
     let stretches = (m + 15) / 16;
-    rows::memory::start_reach(reach, stretches);
-    rows::views::start_marks(marks, 2 * stretches);
+    remembering::memory::start_reach(reach, stretches);
+    remembering::views::start_marks(marks, 2 * stretches);
     let mut from: usize = 0;
     let mut steps: usize = 0;
     loop {
@@ -42,8 +42,8 @@ fn repeat_steps(
         from = super::applying::apply_rule(b, far, reach, marks, m, i, j);
         steps = steps + 1;
     }
-    let left = rows::buffer::close_gaps(b, m);
-    rows::buffer::clear_from(b, 8 * left);
+    let left = remembering::buffer::close_gaps(b, m);
+    remembering::buffer::clear_from(b, 8 * left);
     Done { left, steps }
 }
 

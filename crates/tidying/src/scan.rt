@@ -3,9 +3,9 @@ ghost use mathlib.Core.Path.{_≡_};
 ghost use Prim.Native.Nat.{_≤_, _<_};
 ghost use Rattle.rules.specs.Rules.{fits};
 ghost use Rattle.rules.specs.Tidying.{gate};
-ghost use Rattle.rows.specs.Buffers.{gatesIn, Holds};
-ghost use Rattle.rows.specs.Rows.{Known, Low, Reached};
-ghost use Rattle.rows.specs.Views.{Marked};
+ghost use Rattle.remembering.specs.Buffers.{gatesIn, Holds};
+ghost use Rattle.remembering.specs.Rows.{Known, Low, Reached};
+ghost use Rattle.remembering.specs.Views.{Marked};
 ghost use Rattle.tidying.specs.Searches.{PairAt};
 
 // Two places of a cascade.
@@ -19,7 +19,10 @@ fn fits_places(b: &[u8], m: usize, i: usize, j: usize) -> bool
     requires { ⌜ Holds (now b) (gatesIn (now b) m) × (i < m) × (j < m) ⌝ }
     ensures { λ r. ⌜ r ≡ fits (gate (gatesIn (now (b .entry)) m) i) (gate (gatesIn (now (b .entry)) m) j) ⌝ }
 {
-    rules::fitting::fits_pair(rows::views::word(b, m, i), rows::views::word(b, m, j))
+    rules::fitting::fits_pair(
+        remembering::views::word(b, m, i),
+        remembering::views::word(b, m, j),
+    )
 }
 
 // The smallest i that has a fitting open pair, then the smallest j; i is m where there is none. No row before `from` has one, and a row goes on from
@@ -39,24 +42,24 @@ pub fn find_pair(
     ensures { λ r. ⌜ Known (gatesIn (now (b .entry)) m) (now (far .exit)) × Low (now (far .exit)) (r .i) ⌝ }
     ensures { λ _. ⌜ Reached (now (far .exit)) (now (reach .exit)) m × Marked (gatesIn (now (b .entry)) m) (now (marks .exit)) ⌝ }
 {
-    let mut i = rows::memory::next_row(far, m, from);
+    let mut i = remembering::memory::next_row(far, m, from);
     let mut j = i;
     'rows: while i < m {
-        let g = rows::views::word(b, m, i);
+        let g = remembering::views::word(b, m, i);
         j = far[i] as usize;
         while j < m {
-            let h = rows::views::word(b, m, j);
+            let h = remembering::views::word(b, m, j);
             if !rules::passing::may_change(g, h) {
                 break;
             }
             if fits_places(b, m, i, j) {
                 break 'rows;
             }
-            j = rows::views::pass_stretches(b, marks, m, i, j + 1);
+            j = remembering::views::pass_stretches(b, marks, m, i, j + 1);
         }
         far[i] = j as u16 + 16384;
-        rows::memory::raise_reach(far, reach, m, i, j as u16);
-        i = rows::memory::next_row(far, m, i + 1);
+        remembering::memory::raise_reach(far, reach, m, i, j as u16);
+        i = remembering::memory::next_row(far, m, i + 1);
     }
     Pair { i, j }
 }

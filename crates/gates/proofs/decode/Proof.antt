@@ -4,9 +4,8 @@ use mathlib.Core.Bool.{true}
 use borrow.Author.Tests.{not-true, not-false}
 use native.Mathlib.Omega.{arith}
 use Rattle.card.specs.Card.{linesOk}
-use Rattle.card.proofs.Cards.{lines-are}
 use Rattle.gates.proofs.Records.{decoded-lines, decoded-not, record-short}
-use Rattle.gates.proofs.Bytes.{word-decoded, word-read}
+use Rattle.gates.proofs.Bytes.{word-decoded, word-low}
 use borrow.Author.Needs.{needs}
 use Rattle.gates.proofs.decode.Statement.{statement}
 use Rattle.gates.proofs.decode.Tie as tie
@@ -37,7 +36,7 @@ is-gate-requires : tie.Need-is-gate-requires
 is-gate-requires c κs = six (c .before .before .before)
 
 record-of-requires : tie.Need-record-of-requires
-record-of-requires c κs = λ e. word-read _ _ (lines-are _ (six (c .before .before .before .before)) .1) (sym (c .is-gate .ensures) ∙ e)
+record-of-requires c κs = λ e. word-low _ _ (sym (c .is-gate .ensures) ∙ e)
 
 returns-4 : tie.Need-returns-4
 returns-4 c =

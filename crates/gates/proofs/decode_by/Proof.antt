@@ -1,7 +1,6 @@
 -- `gates::decode_by` meets its contract: the row decides. Assumes nothing.
 use mathlib.Core.Path.{sym, _∙_}
-use Rattle.card.proofs.Cards.{lines-are}
-use Rattle.gates.proofs.Bytes.{word-read, word-decoded}
+use Rattle.gates.proofs.Bytes.{word-low, word-decoded}
 use borrow.Author.Needs.{needs}
 use Rattle.gates.proofs.decode_by.Statement.{statement}
 use Rattle.gates.proofs.decode_by.Tie as tie
@@ -13,7 +12,7 @@ faults-by-requires : tie.Need-faults-by-requires
 faults-by-requires c κs = (c .before .before .before .pre .0, c .before .before .before .pre .1)
 
 record-of-requires : tie.Need-record-of-requires
-record-of-requires c κs = λ e. word-read _ _ (lines-are _ (c .before .before .before .before .pre .0) .1) (sym (c .faults-by .ensures) ∙ e)
+record-of-requires c κs = λ e. word-low _ _ (sym (c .faults-by .ensures) ∙ e)
 
 returns : tie.Need-returns
 returns c = rw (c .record-of .ensures, c .before .faults-by .ensures) (sym (word-decoded _ _ _ (c .before .before .word-at .ensures) _ (c .before .before .before .before .before .pre .0) (c .before .before .before .before .before .pre .2)))

@@ -1,6 +1,5 @@
 -- `synthesis::write_by` meets its contract: a table that is no permutation or a room too small makes the call unfit, and else the cascade is written. Assumes nothing.
 use denote.Ref.{now}
-use mathlib.Core.Path.{_≡_}
 use Prim.Native.Nat.{_≤_}
 use native.Mathlib.Omega.{arith}
 use borrow.Author.Tests.{not-true, not-false}

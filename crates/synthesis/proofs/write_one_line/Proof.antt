@@ -1,10 +1,9 @@
 -- `synthesis::write_one_line` meets its contract: a table that is refused or a room too small makes the call unfit, and else the cascade is written. Assumes nothing.
 use denote.Ref.{now}
-use mathlib.Core.Path.{_≡_, refl, sym, ap, _∙_}
+use mathlib.Core.Path.{refl, sym, ap, _∙_}
 use mathlib.Core.List.{[]}
 use native.Mathlib.Omega.{arith}
 use Rattle.card.specs.Card.{linesOk, Answer.accepted}
-use Rattle.tables.specs.Tables.{checkTableAnswer}
 use Rattle.tables.specs.Permutations.{Permutation}
 use Rattle.tables.specs.Answers.{checkedAs}
 use Rattle.tables.proofs.Accepts.{accepted-permutation}

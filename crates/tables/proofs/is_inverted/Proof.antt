@@ -1,10 +1,10 @@
 -- `tables::is_inverted` meets its contract: a table of patterns that reaches all of them is a permutation, and the others fall short. Assumes nothing.
 use denote.Ref.{now}
 use mathlib.Core.Path.{_≡_, refl, sym, _∙_}
-use mathlib.Core.Bool.{true, false}
+use mathlib.Core.Bool.{false}
 use mathlib.Core.List.{List}
-use Prim.Native.Nat.{ℕ, _^_, _≤_, _<_}
-use lib.ListN.{length, getD, length-replicate}
+use Prim.Native.Nat.{ℕ, _^_, _≤_}
+use lib.ListN.{length, length-replicate}
 use borrow.Author.Tests.{eqb-true, eqb-false, not-true, not-false}
 use native.Mathlib.Omega.{arith}
 use Rattle.ranges.proofs.Bools.{clash}

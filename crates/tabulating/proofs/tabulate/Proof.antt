@@ -1,14 +1,14 @@
 -- `tabulating::tabulate` meets its contract: each return is a case of `tabulateAnswer`. Assumes nothing.
-use mathlib.Core.Path.{_≡_, refl, sym, ap, _∙_}
+use mathlib.Core.Path.{_≡_, sym, ap, _∙_}
 use mathlib.Core.List.{List, [], _∷_, _++_}
-use Prim.Native.Nat.{ℕ, _^_, _≤_, _<_}
-use lib.ListN.{length, drop}
+use Prim.Native.Nat.{ℕ, _^_}
+use lib.ListN.{drop}
 use lib.Seq.{length-take-le, length-front}
 use borrow.Author.Tests.{lt-ltb, le-ltb}
 use Rattle.ranges.proofs.Spans.{length-span}
 use Rattle.card.specs.Card.{Answer.accepted, laid}
 use Rattle.card.proofs.Cards.{lines-are, refusing-yes, refusing-no, refused-both, accepted-both}
-use Rattle.cascades.specs.Cascades.{gatesOf, tableOf, Whole, records}
+use Rattle.cascades.specs.Cascades.{gatesOf, tableOf, Whole}
 use Rattle.cascades.specs.Answers.{countedAs}
 use Rattle.cascades.proofs.Answers.{passed, check-whole, check-count, check-refused}
 use Rattle.tabulating.specs.Tabulating.{tabulateAnswer, tabulateRoom}

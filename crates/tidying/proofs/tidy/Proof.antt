@@ -8,7 +8,7 @@ use Rattle.cascades.specs.Cascades.{records, Whole}
 use Rattle.cascades.specs.Answers.{countedAs}
 use Rattle.cascades.proofs.Answers.{passed, check-whole, check-count, check-refused}
 use Rattle.rules.specs.Tidying.{tidyAnswer, tidyBuffer}
-use Rattle.rows.proofs.Buffers.{holds-start, gates-start}
+use Rattle.remembering.proofs.Buffers.{holds-start, gates-start}
 use borrow.Author.Needs.{needs}
 use Rattle.tidying.proofs.tidy.Statement.{statement}
 use Rattle.tidying.proofs.tidy.Tie as tie

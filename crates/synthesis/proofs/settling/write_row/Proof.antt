@@ -14,7 +14,7 @@ use Rattle.ranges.proofs.Counts.{lt-or-le}
 use Rattle.digits.specs.Digits.{digit}
 use Rattle.digits.proofs.Digits.{digit-lt, digit-put-other, shift-start, shift-digit, shift-next}
 use Rattle.digits.proofs.Sizes.{three-pos, patterns-most}
-use Rattle.synthesis.specs.Steps.{rowFrom, Paired, Reached, spreadOf, noneFrom, Spreads, Facing, Lays}
+use Rattle.synthesis.specs.Steps.{rowFrom, Reached, spreadOf, noneFrom, Spreads, Facing, Lays}
 use Rattle.synthesis.proofs.Spreads.{spread-digit, spread-small, spread-past, spread-rest, none-small}
 use Rattle.synthesis.proofs.Moves.{Sized, sized, same-sizes, held-sized, held-at, held-lt, row-none, row-found, row-more, row-past, row-free, row-done}
 use Rattle.synthesis.proofs.Layings.{lays-none, lays-more}

@@ -12,11 +12,11 @@ use Rattle.rules.specs.Rules.{cancels, merges, reduces, loosened, retuned}
 use Rattle.rules.specs.Tidying.{gate, ruled}
 use Rattle.rules.proofs.Rules.{reduction, loosened-gate, retuned-gate}
 use Rattle.rules.proofs.Steps.{last-rule}
-use Rattle.rows.specs.Buffers.{gatesIn, isGap, Holds, kept, rank}
-use Rattle.rows.specs.Rows.{Known, Low, Reached}
-use Rattle.rows.specs.Views.{Marked}
-use Rattle.rows.proofs.Gaps.{gate-real}
-use Rattle.rows.proofs.Buffers.{length-gates, holds-gate, holds-as, stands-gate, stands-gap}
+use Rattle.remembering.specs.Buffers.{gatesIn, isGap, Holds, kept, rank}
+use Rattle.remembering.specs.Rows.{Known, Low, Reached}
+use Rattle.remembering.specs.Views.{Marked}
+use Rattle.remembering.proofs.Gaps.{gate-real}
+use Rattle.remembering.proofs.Buffers.{length-gates, holds-gate, holds-as, stands-gate, stands-gap}
 use Rattle.tidying.proofs.Firsts.{fits-real, ruled-none, ruled-one, ruled-two}
 use borrow.Author.Needs.{needs}
 use Rattle.tidying.proofs.applying.apply_rule.Statement.{statement}

@@ -2,9 +2,9 @@
 use Prim.Native.Nat.{_+_, _*_, _<_, _≤_}
 use native.Mathlib.Omega.{arith}
 use lib.ListN.{length}
-use Rattle.rows.specs.Buffers.{gatesIn}
-use Rattle.rows.proofs.Buffers.{length-gates, holds-fits, holds-set}
-use Rattle.rows.proofs.Stretches.{marked-set}
+use Rattle.remembering.specs.Buffers.{gatesIn}
+use Rattle.remembering.proofs.Buffers.{length-gates, holds-fits, holds-set}
+use Rattle.remembering.proofs.Stretches.{marked-set}
 use borrow.Author.Needs.{needs}
 use Rattle.tidying.proofs.applying.replace.Statement.{statement}
 use Rattle.tidying.proofs.applying.replace.Tie as tie

@@ -2,8 +2,8 @@
 use mathlib.Core.Path.{_≡_, _∙_}
 use native.Mathlib.Omega.{arith}
 use lib.ListN.{set, length-set}
-use Rattle.rows.specs.Buffers.{gatesIn}
-use Rattle.rows.proofs.Buffers.{length-gates, holds-list}
+use Rattle.remembering.specs.Buffers.{gatesIn}
+use Rattle.remembering.proofs.Buffers.{length-gates, holds-list}
 use borrow.Author.Needs.{needs}
 use Rattle.tidying.proofs.applying.replace_both.Statement.{statement}
 use Rattle.tidying.proofs.applying.replace_both.Tie as tie

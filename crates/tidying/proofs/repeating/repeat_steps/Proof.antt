@@ -8,12 +8,12 @@ use lib.ListN.{length}
 use Rattle.cascades.specs.Cascades.{gatesOf}
 use Rattle.cascades.proofs.Cascades.{gates-count}
 use Rattle.rules.specs.Tidying.{size}
-use Rattle.rows.specs.Buffers.{gatesIn}
-use Rattle.rows.specs.Rows.{Reached}
-use Rattle.rows.specs.Views.{Marked}
-use Rattle.rows.proofs.Buffers.{length-gates}
-use Rattle.rows.proofs.Rows.{reach-start}
-use Rattle.rows.proofs.Stretches.{marked-start}
+use Rattle.remembering.specs.Buffers.{gatesIn}
+use Rattle.remembering.specs.Rows.{Reached}
+use Rattle.remembering.specs.Views.{Marked}
+use Rattle.remembering.proofs.Buffers.{length-gates}
+use Rattle.remembering.proofs.Rows.{reach-start}
+use Rattle.remembering.proofs.Stretches.{marked-start}
 use Rattle.tidying.proofs.Repetitions.{size-le, Going, going-start, going-next, going-done}
 use Rattle.tidying.proofs.repeating.repeat_steps.Statement.{statement}
 use Rattle.tidying.proofs.repeating.repeat_steps.Tie as tie

@@ -16,12 +16,12 @@ use Rattle.gates.specs.Words.{gateOf}
 use Rattle.rules.specs.Places.{mayChange}
 use Rattle.rules.specs.Rules.{fits}
 use Rattle.rules.specs.Tidying.{gate}
-use Rattle.rows.specs.Buffers.{gatesIn, isGap}
-use Rattle.rows.specs.Rows.{Clear, Stops, Known, Low, Reached}
-use Rattle.rows.specs.Views.{Marked}
-use Rattle.rows.proofs.Buffers.{length-gates, holds-gate}
-use Rattle.rows.proofs.Rows.{clear-next, row-real, row-clear, known-stops, reach-others, low-next}
-use Rattle.rows.proofs.Stretches.{shut-unfit}
+use Rattle.remembering.specs.Buffers.{gatesIn, isGap}
+use Rattle.remembering.specs.Rows.{Clear, Stops, Known, Low, Reached}
+use Rattle.remembering.specs.Views.{Marked}
+use Rattle.remembering.proofs.Buffers.{length-gates, holds-gate}
+use Rattle.remembering.proofs.Rows.{clear-next, row-real, row-clear, known-stops, reach-others, low-next}
+use Rattle.remembering.proofs.Stretches.{shut-unfit}
 use Rattle.tidying.proofs.scan.find_pair.Statement.{statement}
 use Rattle.tidying.proofs.scan.find_pair.Tie as tie
 

@@ -1,0 +1,38 @@
+-- `remembering::memory::raise_reach` meets its contract: the stretch reaches so far, or now does. Assumes nothing.
+use Prim.Native.Nat.{_/_, _%_, _<_}
+use native.Mathlib.Omega.{arith}
+use lib.ListN.{length, getD, length-set}
+use Rattle.remembering.proofs.Rows.{raise-none, raise-some}
+use borrow.Author.Needs.{needs}
+use Rattle.remembering.proofs.memory.raise_reach.Statement.{statement}
+use Rattle.remembering.proofs.memory.raise_reach.Tie as tie
+
+module _ (c : tie.Start) where
+  slot : c .args .r / 16 < length (c .args .reach .now)
+  slot = omega (arith, c .pre .0)
+
+mul-if1 : tie.Need-mul-if1
+mul-if1 c = search needs
+
+slice-read-if1 : tie.Need-slice-read-if1
+slice-read-if1 c = slot (c .before)
+
+returns : tie.Need-returns
+returns c = let w = c .before .before .pre .0 in raise-none _ _ _ _ _ (w .4) (w .0) (w .3) (c .before .before .pre .1) (c .if1 .taken)
+
+mul-reach : tie.Need-mul-reach
+mul-reach c = search needs
+
+slice-write-reach : tie.Need-slice-write-reach
+slice-write-reach c = slot (c .before .before)
+
+same-length : tie.Need-same-length
+same-length c = length-set (c .before .before .args .reach .now) (c .before .before .args .r / 16) (c .before .before .args .n)
+
+returns-2 : tie.Need-returns-2
+returns-2 c = let w = c .before .before .pre .0 in let lower : getD (c .before .before .args .reach .now) (c .before .before .args .r / 16) 0 % 16384 < c .before .before .args .n = omega (arith, c .if1 .left) in raise-some (c .before .before .args .far .now) (c .before .before .args .reach .now) (c .before .before .args .m) (c .before .before .args .r) (c .before .before .args .n) (w .4) (w .0) (w .3) (c .before .before .pre .1) (w .2) lower
+
+pub raise-reach-spec : {M : Type 1} → statement M
+raise-reach-spec =
+    tie.close
+    (tie.spec mul-if1 slice-read-if1 returns mul-reach slice-write-reach same-length returns-2)

@@ -1,0 +1,62 @@
+// The lent buffer: one gate read, the gaps closed, and freed records cleared.
+ghost use mathlib.Core.Path.{_≡_};
+ghost use mathlib.Core.List.{_++_};
+ghost use Prim.Native.Nat.{_+_, _-_, _*_, _≤_, _<_};
+ghost use lib.ListN.{length, take, replicate};
+ghost use Rattle.rules.specs.Tidying.{gate};
+ghost use Rattle.remembering.specs.Buffers.{gatesIn, Holds, kept, Moved, Kept};
+use gates::Gate;
+
+// Gate i of m. The records were checked, so it is read without a test.
+pub fn read_gate(b: &[u8], m: usize, i: usize) -> Gate
+    requires { ⌜ Holds (now b) (gatesIn (now b) m) × (i < m) ⌝ }
+    ensures { λ r. ⌜ r ≡ gate (gatesIn (now (b .entry)) m) i ⌝ }
+{
+    gates::words::gate_of(super::views::word(b, m, i))
+}
+
+// Record p comes to stand at place q, which lies before it or is its own.
+fn move_record(b: &mut [u8], p: usize, q: usize)
+    requires { ⌜ (q ≤ p) × (8 * p + 8 ≤ length (now b)) ⌝ }
+    ensures { λ _. ⌜ Moved (now (b .entry)) (now (b .exit)) p q ⌝ }
+{
+    gates::words::store(gates::words::word_at(b, 8 * p), b, 8 * q);
+}
+
+// Record p comes to stand at place q where it is no gap; answers the place for the next.
+fn keep_record(b: &mut [u8], p: usize, q: usize) -> usize
+    requires { ⌜ (q ≤ p) × (8 * p + 8 ≤ length (now b)) ⌝ }
+    ensures { λ r. ⌜ Kept (now (b .entry)) (now (b .exit)) p q r ⌝ }
+{
+    if b[8 * p] == 0 {
+        return q;
+    }
+    move_record(b, p, q);
+    q + 1
+}
+
+// The gates of m places close up; answers how many they are.
+pub fn close_gaps(b: &mut [u8], m: usize) -> usize
+    requires { ⌜ Holds (now b) (gatesIn (now b) m) ⌝ }
+    ensures { λ r. ⌜ Holds (now (b .exit)) (kept (gatesIn (now (b .entry)) m)) × (r ≡ length (kept (gatesIn (now (b .entry)) m))) ⌝ }
+{
+    let mut q: usize = 0;
+    let mut p: usize = 0;
+    while p < m {
+        q = keep_record(b, p, q);
+        p = p + 1;
+    }
+    q
+}
+
+// Zero bytes from a place to the end.
+pub fn clear_from(b: &mut [u8], from: usize)
+    requires { ⌜ from ≤ length (now b) ⌝ }
+    ensures { λ _. ⌜ now (b .exit) ≡ take from (now (b .entry)) ++ replicate (length (now (b .entry)) - from) 0 ⌝ }
+{
+    let mut x = from;
+    while x < b.len() {
+        b[x] = 0;
+        x = x + 1;
+    }
+}
