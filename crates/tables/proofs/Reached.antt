@@ -9,7 +9,7 @@ use native.Mathlib.Nat.{zero-add, pow-le-pow-right}
 use native.Mathlib.Numerals.{add-one}
 use native.Mathlib.Decide.{ℕ-discrete}
 use native.Mathlib.Omega.{arith}
-use lib.Bits.{bitOr}
+use lib.Bits.{bitAnd, bitOr, and-le-l, and-le-r, and-self}
 use lib.Dec.{eqb}
 use lib.ListN.{length, getD, set, replicate, length-set, length-replicate, getD-replicate}
 use lib.Seq.{getD-set-same, getD-set-other}
@@ -23,7 +23,7 @@ use Rattle.ranges.proofs.Searches.{found}
 use Rattle.digits.specs.Digits.{digit}
 use Rattle.digits.proofs.Bits.{digit-or}
 use Rattle.tables.specs.Permutations.{Permutation}
-use Rattle.tables.specs.Reached.{stands, Points, Inverted}
+use Rattle.tables.specs.Reached.{stands, Shuffled, Back, Inverted}
 
 -- ---- a map of the numbers below m into themselves that takes no two to the same reaches them all
 
@@ -113,60 +113,93 @@ module _ (n : ℕ) (t : List ℕ) (f : ℕ → ℕ) (size : length t ≡ 3 ^ n) 
 
 -- ---- the pass that points back
 
-high : (x : ℕ) → x ≡ 65535 → x < 32768 → ⊥
-high x e lt = omega arith
+-- after i entries: values that did not stand yet have 65,535, all is 65,535 if the table is shuffled, and if it is, the values' places point back
+pub record Turning (t v : List ℕ) (all i : ℕ) : Type 0 where
+  pub size : length v ≡ length t
+  pub most : i ≤ length t
+  pub low : all ≤ 65535
+  pub within : (p : ℕ) → p < i → getD t p 0 < length t
+  pub fresh : (q : ℕ) → q < length t → ((p : ℕ) → p < i → getD t p 0 ≡ q → ⊥) → getD v q 0 ≡ 65535
+  pub back : all ≡ 65535 → Back t v i
+  pub right : Shuffled t → all ≡ 65535
 
-pub points-none : (t : List ℕ) → Points t (replicate (length t) 65535) 0
-points-none t =
+pub turning-none : (t : List ℕ) → Turning t (replicate (length t) 65535) 65535 0
+turning-none t =
     record {
       size = length-replicate (length t) 65535;
-      place = λ q lt low. absurd (high _ (getD-replicate (length t) q 65535 0 lt) low);
-      reached = λ p lt. absurd (omega arith);
+      most = omega arith;
+      low = omega arith;
+      within = λ p lt. absurd (omega arith);
+      fresh = λ q lt none. getD-replicate (length t) q 65535 0 lt;
+      back = λ e p lt. absurd (omega arith);
+      right = λ w. refl;
     }
 
-pub points-more : (t v : List ℕ) (i : ℕ) → i < length t → i < 729 → getD t i 0 < length t → Points t v i → Points t (set v (getD t i 0) i) (i + 1)
-points-more t v i lt few small w =
+module _ (t v : List ℕ) (all i : ℕ) (lt : i < length t) (few : i < 729) (small : getD t i 0 < length t) (w : Turning t v all i) where
+  abbrev x : ℕ
+  x = getD t i 0
+
+  abbrev old : ℕ
+  old = getD v x 0
+
+  both : bitAnd all old ≡ 65535 → (all ≡ 65535) × (65535 ≤ old)
+  both e = (omega (arith, e, and-le-l all old, w .low), omega (arith, e, and-le-r all old))
+
+  fresh-more : (q : ℕ) → q < length t → ((p : ℕ) → p < i + 1 → getD t p 0 ≡ q → ⊥) → getD (set v x i) q 0 ≡ 65535
+  fresh-more q lq none =
+      getD-set-other v x q i 0 (λ e. none i (omega arith) (sym e)) ∙ w .fresh q lq (λ p lp. none p (omega arith))
+
+  back-more : bitAnd all old ≡ 65535 → Back t (set v x i) (i + 1)
+  back-more e =
+      below-more (λ (p : ℕ). getD (set v x i) (getD t p 0) 0 ≡ p) i
+      (λ p lp.
+      let there = w .back (both e .0) p lp in
+      let ne : getD t p 0 ≡ x → ⊥ = λ q. (let same : old ≡ p = ap (λ (y : ℕ). getD v y 0) (sym q) ∙ there in absurd (omega (arith, same, both e .1))) in
+      getD-set-other v x (getD t p 0) i 0 ne ∙ there)
+      (getD-set-same v x i 0 (omega (arith, w .size)))
+
+  right-more : Shuffled t → bitAnd all old ≡ 65535
+  right-more s =
+      let none : old ≡ 65535 = w .fresh x small (λ p lp e. let same = s .apart p i (omega arith) lt e in omega arith) in
+      rw (w .right s, none) (and-self 65535)
+
+  pub turning-more : Turning t (set v x i) (bitAnd all old) (i + 1)
+  turning-more =
+      record {
+        size = length-set v x i ∙ w .size;
+        most = omega arith;
+        low = omega (arith, and-le-l all old, w .low);
+        within = below-more (λ (p : ℕ). getD t p 0 < length t) i (w .within) small;
+        fresh = fresh-more;
+        back = back-more;
+        right = right-more;
+      }
+
+-- what points back tells the entries apart
+pub turned : (t v : List ℕ) (all i : ℕ) → length t ≤ i → Turning t v all i → all ≡ 65535 → Shuffled t × Back t v (length t)
+turned t v all i le w e =
+    let back : Back t v (length t) = λ p lp. w .back e p (omega arith) in
+    (record { within = λ p lp. w .within p (omega arith); apart = λ p q lp lq same. sym (back p lp) ∙ ap (λ (y : ℕ). getD v y 0) same ∙ back q lq }, back)
+
+-- a shuffled table of 3^n entries is a permutation, and a permutation is shuffled
+pub inverted : (n : ℕ) (t v : List ℕ) → length t ≡ 3 ^ n → length v ≡ length t → Shuffled t → Back t v (length t) → Inverted n t v
+inverted n t v size same w back =
     record {
-      size = length-set v (getD t i 0) i ∙ w .size;
-      place = λ q lq low. place q lq low (ℕ-discrete q (getD t i 0));
-      reached = below-more (λ (p : ℕ). getD (set v (getD t i 0) i) (getD t p 0) 0 < 32768) i (λ p lp. still p lp (ℕ-discrete (getD t p 0) (getD t i 0))) now-reached;
+      perm = record {
+        size = size;
+        within = λ p lp. omega (arith, size, w .within p (omega (arith, size)));
+        apart = λ p q lp lq e. w .apart p q (omega (arith, size)) (omega (arith, size)) e;
+      };
+      size = same ∙ size;
+      back = λ p lp. back p (omega (arith, size));
     }
-  where
-    here : getD (set v (getD t i 0) i) (getD t i 0) 0 ≡ i
-    here = getD-set-same v (getD t i 0) i 0 (omega (arith, w .size))
 
-    now-reached : getD (set v (getD t i 0) i) (getD t i 0) 0 < 32768
-    now-reached = rw here (omega arith)
-
-    place : (q : ℕ) → q < length t → getD (set v (getD t i 0) i) q 0 < 32768 → Dec (q ≡ getD t i 0)
-        → (getD (set v (getD t i 0) i) q 0 < i + 1) × (getD t (getD (set v (getD t i 0) i) q 0) 0 ≡ q)
-    place q lq low (yes e) = rw (e, here) (omega arith, refl)
-    place q lq low (no ne) =
-        let o = getD-set-other v (getD t i 0) q i 0 ne in
-        let s = w .place q lq (omega arith) in rw o (omega (arith, s .0), s .1)
-
-    still : (p : ℕ) → p < i → Dec (getD t p 0 ≡ getD t i 0) → getD (set v (getD t i 0) i) (getD t p 0) 0 < 32768
-    still p lp (yes e) = rw e now-reached
-    still p lp (no ne) = rw (getD-set-other v (getD t i 0) (getD t p 0) i 0 ne) (w .reached p lp)
-
--- all are reached: the table is a permutation, and what points back is its inverse
-pub inverted : (n : ℕ) (t v : List ℕ) → length t ≡ 3 ^ n → ((p : ℕ) → p < length t → getD t p 0 < length t) → Points t v (length t)
-    → ((q : ℕ) → q < length v → getD v q 0 < 32768) → Inverted n t v
-inverted n t v size below w all =
-    let within : (p : ℕ) → p < 3 ^ n → getD t p 0 < 3 ^ n = λ p lp. omega (arith, size, below p (omega (arith, size))) in
-    let there : (q : ℕ) → q < 3 ^ n → (getD v q 0 < 3 ^ n) × (getD t (getD v q 0) 0 ≡ q) =
-    λ q lq. let s = w .place q (omega (arith, size)) (all q (omega (arith, size, w .size))) in (omega (arith, size, s .0), s .1) in
+pub shuffled : (n : ℕ) (t : List ℕ) → Permutation 3 n t → Shuffled t
+shuffled n t w =
     record {
-      perm = place-permutation n t (λ q. getD v q 0) size within there;
-      size = w .size ∙ size;
-      back = place-back n t (λ q. getD v q 0) size within there;
+      within = λ p lp. omega (arith, w .size, w .within p (omega (arith, w .size)));
+      apart = λ p q lp lq e. w .apart p q (omega (arith, w .size)) (omega (arith, w .size)) e;
     }
-
--- and a permutation reaches all
-pub all-reached : (n : ℕ) (t v : List ℕ) → Permutation 3 n t → Points t v (length t) → (q : ℕ) → q < length v → getD v q 0 < 32768
-all-reached n t v perm w q lq =
-    let x = onto-below (3 ^ n) (λ p. getD t p 0) (perm .within) (perm .apart) q (omega (arith, perm .size, w .size)) in
-    rw (x .to) at (w .reached (x .from) (omega (arith, perm .size, x .below)))
 
 -- ---- the number of a table's values
 

@@ -12,15 +12,14 @@ use Rattle.tables.specs.Permutations.{Permutation}
 abbrev pub stands : List ℕ → ℕ → ℕ → Bool
 stands t q i = some (λ j. eqb (getD t j 0) q) 0 i
 
--- the entries of t are numbers of its rows
-abbrev pub Within : List ℕ → Type 0
-Within t = (i : ℕ) → i < length t → getD t i 0 < length t
+-- the entries of t are numbers of its rows, and no two are equal
+pub record Shuffled (t : List ℕ) : Type 0 where
+  pub within : (p : ℕ) → p < length t → getD t p 0 < length t
+  pub apart : (p q : ℕ) → p < length t → q < length t → getD t p 0 ≡ getD t q 0 → p ≡ q
 
--- v says of each value where it stands among the entries of t before entry i; it says 32,768 or more where the value does not stand there
-pub record Points (t v : List ℕ) (i : ℕ) : Type 0 where
-  pub size : length v ≡ length t
-  pub place : (q : ℕ) → q < length t → getD v q 0 < 32768 → (getD v q 0 < i) × (getD t (getD v q 0) 0 ≡ q)
-  pub reached : (p : ℕ) → p < i → getD v (getD t p 0) 0 < 32768
+-- v takes each entry of t before entry i back to its row
+abbrev pub Back : List ℕ → List ℕ → ℕ → Type 0
+Back t v i = (p : ℕ) → p < i → getD v (getD t p 0) 0 ≡ p
 
 -- t is a permutation of the patterns of n lines, and v takes each of its entries back to the entry's row
 pub record Inverted (n : ℕ) (t v : List ℕ) : Type 0 where

@@ -5,7 +5,7 @@ ghost use Prim.Native.Nat.{ℕ, _≤_, _<_};
 ghost use lib.ListN.{length, getD, replicate};
 ghost use Rattle.digits.specs.Digits.{digit};
 ghost use Rattle.tables.specs.Tables.{firstLarge, firstRepeated};
-ghost use Rattle.tables.specs.Reached.{stands, Within, Points};
+ghost use Rattle.tables.specs.Reached.{stands, Shuffled, Back};
 
 // The larger of two numbers.
 fn larger(x: u16, y: u16) -> u16
@@ -44,44 +44,26 @@ pub fn values(table: &[u16]) -> u64
     bits
 }
 
-// The row of each value goes to the value's place; values that do not stand in the table keep 65,535. Says whether every entry has a place.
+// The row of each value goes to the value's place. Says whether every value has a place and no two have the same: whether each place still had 65,535,
+// all of whose bits are set. That is asked of all entries together, so no branch hangs on it.
 pub fn invert(table: &[u16], inverse: &mut [u16]) -> bool
     requires { ⌜ length (now table) ≤ 729 ⌝ }
     requires { ⌜ now inverse ≡ replicate (length (now table)) 65535 ⌝ }
-    ensures { λ r. ⌜ (r ≡ true → Within (now (table .entry)) × Points (now (table .entry)) (now (inverse .exit)) (length (now (table .entry)))) ⌝ }
-    ensures { λ r. ⌜ (r ≡ false → Within (now (table .entry)) → ⊥) ⌝ }
+    ensures { λ r. ⌜ (r ≡ true → Shuffled (now (table .entry)) × Back (now (table .entry)) (now (inverse .exit)) (length (now (table .entry)))) ⌝ }
+    ensures { λ r. ⌜ (r ≡ false → Shuffled (now (table .entry)) → ⊥) ⌝ }
 {
+    let mut all: u16 = 65535;
     let mut i: usize = 0;
     while i < table.len() {
         let x = table[i] as usize;
         if inverse.len() <= x {
             return false;
         }
+        all = all & inverse[x];
         inverse[x] = i as u16;
         i += 1;
     }
-    true
-}
-
-// 1 for a number from 32,768 up, and 0 for one below.
-fn high(x: u16) -> u16
-    ensures { λ r. ⌜ (r ≤ 1) × (r ≡ 0 → x < 32768) × (x < 32768 → r ≡ 0) ⌝ }
-{
-    x / 32768
-}
-
-// How many values were not reached. Here too no branch hangs on an entry.
-pub fn unreached(inverse: &[u16]) -> u16
-    requires { ⌜ length (now inverse) ≤ 729 ⌝ }
-    ensures { λ r. ⌜ (r ≡ 0 → (q : ℕ) → q < length (now (inverse .entry)) → getD (now (inverse .entry)) q 0 < 32768) × (((q : ℕ) → q < length (now (inverse .entry)) → getD (now (inverse .entry)) q 0 < 32768) → r ≡ 0) ⌝ }
-{
-    let mut left: u16 = 0;
-    let mut q: usize = 0;
-    while q < inverse.len() {
-        left = left + high(inverse[q]);
-        q += 1;
-    }
-    left
+    all == 65535
 }
 
 // The first entry that is no pattern of n lines, or the table's length.

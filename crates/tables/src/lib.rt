@@ -62,10 +62,7 @@ pub fn is_inverted(n: usize, table: &[u16], inverse: &mut [u16]) -> bool
     if table.len() != inverse.len() {
         return false;
     }
-    if !entries::invert(table, inverse) {
-        return false;
-    }
-    entries::unreached(inverse) == 0
+    entries::invert(table, inverse)
 }
 
 // Whether a table of at most 27 entries is a permutation: whether `all`, which has a bit for each of its patterns, is the number of its values.
