@@ -62,7 +62,7 @@ fn line<const COLUMNS: usize>(call: &str, times: &[([Times; 2], usize); COLUMNS]
     for (side, name) in ["proved", "second"].into_iter().enumerate() {
         print!("{:<35}{name:<8}", if side == 0 { call } else { "" });
         for (times, size) in times {
-            print!("{:>10}", duration(times[side].median / *size as f64));
+            print!("{:>10}", duration(times[side].least / *size as f64));
         }
         println!();
     }

@@ -3,7 +3,7 @@
 //!     bench [WORD]
 //!
 //! prints a line for each call and input, both sides on the same input in one run:
-//! the median and the least time of a call and the ratio of the medians, with a
+//! the median and the least time of a call and the ratio of the least times, with a
 //! star where the ratio is above the aim; then how times grow with gates and with
 //! lines; then how long the program `tiles` takes. With a WORD, only the lines of
 //! the first table that have it in their name.
@@ -66,12 +66,12 @@ fn print_all() {
     );
     println!("entries of a table, gates of a cascade, or tables.\n");
     print_rows("");
-    growth::print(&Timer { patience: Duration::from_millis(60) });
+    growth::print(&Timer { patience: Duration::from_millis(120) });
     program::print(&Path::new(env!("CARGO_MANIFEST_DIR")).join(".."));
 }
 
 fn print_rows(word: &str) {
-    let mut report = Report::new(word, Timer { patience: Duration::from_millis(300) });
+    let mut report = Report::new(word, Timer { patience: Duration::from_millis(800) });
     rows::print(&mut report);
     report.end();
 }

@@ -38,7 +38,8 @@ impl Report {
             return;
         }
         let [proved, second] = time(&self.timer);
-        let ratio = proved.median / second.median;
+        // What else the machine does only adds time, so the least times are compared.
+        let ratio = proved.least / second.least;
         let missed = ratio > aim;
         self.lines += 1;
         self.missed += missed as usize;

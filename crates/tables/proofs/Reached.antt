@@ -111,6 +111,66 @@ module _ (n : ℕ) (t : List ℕ) (f : ℕ → ℕ) (size : length t ≡ 3 ^ n) 
   place-permutation : Permutation 3 n t
   place-permutation = record { size = size; within = below; apart = λ p q lp lq e. sym (place-back p lp) ∙ ap f e ∙ place-back q lq }
 
+-- ---- a pass that asks of all entries together whether their places were free
+
+-- what all bits of two numbers say
+both-full : (full all old : ℕ) → all ≤ full → bitAnd all old ≡ full → (all ≡ full) × (full ≤ old)
+both-full full all old le e = (omega (arith, e, and-le-l all old), omega (arith, e, and-le-r all old))
+
+-- after i entries: the places of their values are taken, and if all is 255, no two are equal
+pub record Marking (t v : List ℕ) (all i : ℕ) : Type 0 where
+  pub size : length v ≡ length t
+  pub low : all ≤ 255
+  pub within : (p : ℕ) → p < i → getD t p 0 < length t
+  pub taken : (p : ℕ) → p < i → getD v (getD t p 0) 0 ≡ 0
+  pub apart : all ≡ 255 → (p q : ℕ) → p < i → q < i → getD t p 0 ≡ getD t q 0 → p ≡ q
+
+pub marking-none : (t : List ℕ) → Marking t (replicate (length t) 255) 255 0
+marking-none t =
+    record {
+      size = length-replicate (length t) 255;
+      low = omega arith;
+      within = λ p lt. absurd (omega arith);
+      taken = λ p lt. absurd (omega arith);
+      apart = λ e p q lt. absurd (omega arith);
+    }
+
+module _ (t v : List ℕ) (all i : ℕ) (small : getD t i 0 < length t) (w : Marking t v all i) where
+  abbrev place : ℕ
+  place = getD t i 0
+
+  here : getD (set v place 0) place 0 ≡ 0
+  here = getD-set-same v place 0 0 (omega (arith, w .size))
+
+  taken-more : (p : ℕ) → p < i → Dec (getD t p 0 ≡ place) → getD (set v place 0) (getD t p 0) 0 ≡ 0
+  taken-more p lp (yes e) = rw e here
+  taken-more p lp (no ne) = getD-set-other v place (getD t p 0) 0 0 ne ∙ w .taken p lp
+
+  module _ (e : bitAnd all (getD v place 0) ≡ 255) where
+    new : (p : ℕ) → p < i → getD t p 0 ≡ place → ⊥
+    new p lp same =
+        let none : getD v place 0 ≡ 0 = ap (λ (y : ℕ). getD v y 0) (sym same) ∙ w .taken p lp in
+        omega (arith, none, both-full 255 all (getD v place 0) (w .low) e .1)
+
+    apart-more : (p q : ℕ) → p < i + 1 → q < i + 1 → getD t p 0 ≡ getD t q 0 → Dec (p ≡ i) → Dec (q ≡ i) → p ≡ q
+    apart-more p q lp lq same (yes ep) (yes eq) = ep ∙ sym eq
+    apart-more p q lp lq same (yes ep) (no nq) = absurd (new q (omega arith) (sym same ∙ ap (λ (y : ℕ). getD t y 0) ep))
+    apart-more p q lp lq same (no np) (yes eq) = absurd (new p (omega arith) (same ∙ ap (λ (y : ℕ). getD t y 0) eq))
+    apart-more p q lp lq same (no np) (no nq) = w .apart (both-full 255 all (getD v place 0) (w .low) e .0) p q (omega arith) (omega arith) same
+
+  pub marking-more : Marking t (set v place 0) (bitAnd all (getD v place 0)) (i + 1)
+  marking-more =
+      record {
+        size = length-set v place 0 ∙ w .size;
+        low = omega (arith, and-le-l all (getD v place 0), w .low);
+        within = below-more (λ (p : ℕ). getD t p 0 < length t) i (w .within) small;
+        taken = below-more (λ (p : ℕ). getD (set v place 0) (getD t p 0) 0 ≡ 0) i (λ p lp. taken-more p lp (ℕ-discrete (getD t p 0) place)) here;
+        apart = λ e p q lp lq same. apart-more e p q lp lq same (ℕ-discrete p i) (ℕ-discrete q i);
+      }
+
+pub marked : (t v : List ℕ) (all i : ℕ) → length t ≤ i → Marking t v all i → all ≡ 255 → Shuffled t
+marked t v all i le w e = record { within = λ p lp. w .within p (omega arith); apart = λ p q lp lq same. w .apart e p q (omega arith) (omega arith) same }
+
 -- ---- the pass that points back
 
 -- after i entries: values that did not stand yet have 65,535, all is 65,535 if the table is shuffled, and if it is, the values' places point back
@@ -143,7 +203,7 @@ module _ (t v : List ℕ) (all i : ℕ) (lt : i < length t) (few : i < 729) (sma
   old = getD v x 0
 
   both : bitAnd all old ≡ 65535 → (all ≡ 65535) × (65535 ≤ old)
-  both e = (omega (arith, e, and-le-l all old, w .low), omega (arith, e, and-le-r all old))
+  both e = both-full 65535 all old (w .low) e
 
   fresh-more : (q : ℕ) → q < length t → ((p : ℕ) → p < i + 1 → getD t p 0 ≡ q → ⊥) → getD (set v x i) q 0 ≡ 65535
   fresh-more q lq none =
@@ -182,17 +242,16 @@ turned t v all i le w e =
     (record { within = λ p lp. w .within p (omega arith); apart = λ p q lp lq same. sym (back p lp) ∙ ap (λ (y : ℕ). getD v y 0) same ∙ back q lq }, back)
 
 -- a shuffled table of 3^n entries is a permutation, and a permutation is shuffled
-pub inverted : (n : ℕ) (t v : List ℕ) → length t ≡ 3 ^ n → length v ≡ length t → Shuffled t → Back t v (length t) → Inverted n t v
-inverted n t v size same w back =
+pub permuted : (n : ℕ) (t : List ℕ) → length t ≡ 3 ^ n → Shuffled t → Permutation 3 n t
+permuted n t size w =
     record {
-      perm = record {
-        size = size;
-        within = λ p lp. omega (arith, size, w .within p (omega (arith, size)));
-        apart = λ p q lp lq e. w .apart p q (omega (arith, size)) (omega (arith, size)) e;
-      };
-      size = same ∙ size;
-      back = λ p lp. back p (omega (arith, size));
+      size = size;
+      within = λ p lp. omega (arith, size, w .within p (omega (arith, size)));
+      apart = λ p q lp lq e. w .apart p q (omega (arith, size)) (omega (arith, size)) e;
     }
+
+pub inverted : (n : ℕ) (t v : List ℕ) → length t ≡ 3 ^ n → length v ≡ length t → Shuffled t → Back t v (length t) → Inverted n t v
+inverted n t v size same w back = record { perm = permuted n t size w; size = same ∙ size; back = λ p lp. back p (omega (arith, size)) }
 
 pub shuffled : (n : ℕ) (t : List ℕ) → Permutation 3 n t → Shuffled t
 shuffled n t w =

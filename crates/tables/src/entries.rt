@@ -66,6 +66,25 @@ pub fn invert(table: &[u16], inverse: &mut [u16]) -> bool
     all == 65535
 }
 
+// Whether every value has a place and no two have the same, by one byte for each place, which is 255 as long as the place is free.
+pub fn distinct(table: &[u16], free: &mut [u8]) -> bool
+    requires { ⌜ now free ≡ replicate (length (now table)) 255 ⌝ }
+    ensures { λ r. ⌜ (r ≡ true → Shuffled (now (table .entry))) ⌝ }
+{
+    let mut all: u8 = 255;
+    let mut i: usize = 0;
+    while i < table.len() {
+        let x = table[i] as usize;
+        if free.len() <= x {
+            return false;
+        }
+        all = all & free[x];
+        free[x] = 0;
+        i += 1;
+    }
+    all == 255
+}
+
 // The first entry that is no pattern of n lines, or the table's length.
 pub fn first_large(n: usize, table: &[u16]) -> usize
     requires { ⌜ n ≤ 6 ⌝ }

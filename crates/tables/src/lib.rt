@@ -80,6 +80,17 @@ fn has_all(n: usize, table: &[u16], all: u64) -> bool
     entries::values(table) == all
 }
 
+// The same for a table of any length, with the help of a lent array that comes with 255 for each pattern.
+fn is_shuffled(n: usize, table: &[u16], free: &mut [u8]) -> bool
+    requires { ⌜ now free ≡ replicate (3 ^ n) 255 ⌝ }
+    ensures { λ r. ⌜ (r ≡ true → Permutation 3 n (now (table .entry))) ⌝ }
+{
+    if table.len() != free.len() {
+        return false;
+    }
+    entries::distinct(table, free)
+}
+
 // Whether the table is a permutation of the patterns of 1 to 6 lines. Each number of lines has an array of its own size: to clear a large one would take
 // longer than a small table's check, and up to three lines a number's bits are enough.
 fn is_permutation(lines: u8, table: &[u16]) -> bool
@@ -90,16 +101,16 @@ fn is_permutation(lines: u8, table: &[u16]) -> bool
         2 => has_all(2, table, 0x1ff),
         3 => has_all(3, table, 0x7ffffff),
         4 => {
-            let mut inverse = [65535u16; 81];
-            is_inverted(4, table, &mut inverse)
+            let mut free = [255u8; 81];
+            is_shuffled(4, table, &mut free)
         }
         5 => {
-            let mut inverse = [65535u16; 243];
-            is_inverted(5, table, &mut inverse)
+            let mut free = [255u8; 243];
+            is_shuffled(5, table, &mut free)
         }
         6 => {
-            let mut inverse = [65535u16; 729];
-            is_inverted(6, table, &mut inverse)
+            let mut free = [255u8; 729];
+            is_shuffled(6, table, &mut free)
         }
         _ => false,
     }

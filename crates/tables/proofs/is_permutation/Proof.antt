@@ -30,23 +30,23 @@ has-all-requires-3 : tie.Need-has-all-requires-3
 unfolding every digit
 has-all-requires-3 c κs = (search needs, λ q lt. eqb-true _ _ (every-below (λ q. eqb (digit 2 q 134217727) 1) 27 refl q lt))
 
-slice-aggregate-is-inverted : tie.Need-slice-aggregate-is-inverted
-slice-aggregate-is-inverted c = search needs
+slice-aggregate-is-shuffled : tie.Need-slice-aggregate-is-shuffled
+slice-aggregate-is-shuffled c = search needs
 
-is-inverted-requires : tie.Need-is-inverted-requires
-is-inverted-requires c κs = search needs
+is-shuffled-requires : tie.Need-is-shuffled-requires
+is-shuffled-requires c κs = search needs
 
-slice-aggregate-is-inverted-2 : tie.Need-slice-aggregate-is-inverted-2
-slice-aggregate-is-inverted-2 c = search needs
+slice-aggregate-is-shuffled-2 : tie.Need-slice-aggregate-is-shuffled-2
+slice-aggregate-is-shuffled-2 c = search needs
 
-is-inverted-requires-2 : tie.Need-is-inverted-requires-2
-is-inverted-requires-2 c κs = search needs
+is-shuffled-requires-2 : tie.Need-is-shuffled-requires-2
+is-shuffled-requires-2 c κs = search needs
 
-slice-aggregate-is-inverted-3 : tie.Need-slice-aggregate-is-inverted-3
-slice-aggregate-is-inverted-3 c = search needs
+slice-aggregate-is-shuffled-3 : tie.Need-slice-aggregate-is-shuffled-3
+slice-aggregate-is-shuffled-3 c = search needs
 
-is-inverted-requires-3 : tie.Need-is-inverted-requires-3
-is-inverted-requires-3 c κs = search needs
+is-shuffled-requires-3 : tie.Need-is-shuffled-requires-3
+is-shuffled-requires-3 c κs = search needs
 
 returns : tie.Need-returns
 unfolding linesOk
@@ -62,15 +62,15 @@ returns-3 c = λ e. on-lines 3 _ _ (c .before .match .keys3) refl (c .has-all3 .
 
 returns-4 : tie.Need-returns-4
 unfolding linesOk
-returns-4 c = λ e. on-lines 4 _ _ (c .before .before .before .match .keys4) refl (c .before .is-inverted .ensures .0 e .perm)
+returns-4 c = λ e. on-lines 4 _ _ (c .before .before .before .match .keys4) refl (c .before .is-shuffled .ensures e)
 
 returns-5 : tie.Need-returns-5
 unfolding linesOk
-returns-5 c = λ e. on-lines 5 _ _ (c .before .before .before .match .keys5) refl (c .before .is-inverted2 .ensures .0 e .perm)
+returns-5 c = λ e. on-lines 5 _ _ (c .before .before .before .match .keys5) refl (c .before .is-shuffled2 .ensures e)
 
 returns-6 : tie.Need-returns-6
 unfolding linesOk
-returns-6 c = λ e. on-lines 6 _ _ (c .before .before .before .match .keys6) refl (c .before .is-inverted3 .ensures .0 e .perm)
+returns-6 c = λ e. on-lines 6 _ _ (c .before .before .before .match .keys6) refl (c .before .is-shuffled3 .ensures e)
 
 returns-7 : tie.Need-returns-7
 returns-7 c = λ e. clash false e refl
@@ -82,12 +82,12 @@ is-permutation-spec =
     has-all-requires
     has-all-requires-2
     has-all-requires-3
-    slice-aggregate-is-inverted
-    is-inverted-requires
-    slice-aggregate-is-inverted-2
-    is-inverted-requires-2
-    slice-aggregate-is-inverted-3
-    is-inverted-requires-3
+    slice-aggregate-is-shuffled
+    is-shuffled-requires
+    slice-aggregate-is-shuffled-2
+    is-shuffled-requires-2
+    slice-aggregate-is-shuffled-3
+    is-shuffled-requires-3
     returns
     returns-2
     returns-3
