@@ -15,12 +15,12 @@ fn sum_all_tables(
 ) -> Sums
     requires { ⌜ length (now table) ≤ 729 ⌝ }
 {
-    crate::orders::write_first(table);
+    drawing::orders::write_first(table);
     let mut sums = crate::sums::nothing();
     let mut left: u32 = 362880;
     while 0 < left {
         sums = add_table(sums, 2, table, room, inverse, entries);
-        crate::orders::write_next(table);
+        drawing::orders::write_next(table);
         left = left - 1;
     }
     sums
@@ -42,7 +42,7 @@ fn sum_drawn_tables(
     let mut state = seed;
     let mut left = count;
     while 0 < left {
-        state = crate::draws::draw_table(state, table);
+        state = drawing::draws::draw_table(state, table);
         sums = add_table(sums, lines, table, room, inverse, entries);
         left = left - 1;
     }
@@ -65,7 +65,7 @@ fn sum_cascades(
     let mut state = seed;
     let mut left = count;
     while 0 < left {
-        state = crate::draws::draw_cascade(dense, state, lines as usize, cascade);
+        state = drawing::draws::draw_cascade(dense, state, lines as usize, cascade);
         sums = add_cascade(sums, lines, cascade, inverse, entries);
         left = left - 1;
     }

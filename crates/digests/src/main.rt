@@ -1,8 +1,6 @@
 // Prints the sums and digests of 13 families of cascades, as docs/VECTORS.md has them; the second program prints the same from its own code.
 mod adding;
-mod draws;
 mod families;
-mod orders;
 mod printing;
 mod sums;
 

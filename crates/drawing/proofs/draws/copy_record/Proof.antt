@@ -3,8 +3,8 @@ use mathlib.Core.Path.{_≡_}
 use Prim.Native.Nat.{_-_}
 use lib.ListN.{length}
 use borrow.Author.Needs.{needs}
-use Rattle.digests.proofs.draws.copy_record.Statement.{statement}
-use Rattle.digests.proofs.draws.copy_record.Tie as tie
+use Rattle.drawing.proofs.draws.copy_record.Statement.{statement}
+use Rattle.drawing.proofs.draws.copy_record.Tie as tie
 
 abbrev Inv-loop : tie.InvT-loop
 Inv-loop records from room₀ to i₀ room i = length room ≡ length room₀

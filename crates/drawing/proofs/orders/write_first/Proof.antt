@@ -3,8 +3,8 @@ use mathlib.Core.Path.{_≡_}
 use Prim.Native.Nat.{_-_}
 use lib.ListN.{length}
 use borrow.Author.Needs.{needs}
-use Rattle.digests.proofs.orders.write_first.Statement.{statement}
-use Rattle.digests.proofs.orders.write_first.Tie as tie
+use Rattle.drawing.proofs.orders.write_first.Statement.{statement}
+use Rattle.drawing.proofs.orders.write_first.Tie as tie
 
 abbrev Inv-loop : tie.InvT-loop
 Inv-loop table₀ p₀ table p = length table ≡ length table₀

@@ -1,8 +1,8 @@
 -- `digests::draws::below` meets its contract: a remainder is below its divisor. Assumes nothing.
 use native.Mathlib.Nat.{mod-lt}
 use borrow.Author.Needs.{needs}
-use Rattle.digests.proofs.draws.below.Statement.{statement}
-use Rattle.digests.proofs.draws.below.Tie as tie
+use Rattle.drawing.proofs.draws.below.Statement.{statement}
+use Rattle.drawing.proofs.draws.below.Tie as tie
 
 cast-result : tie.Need-cast-result
 cast-result c = search needs

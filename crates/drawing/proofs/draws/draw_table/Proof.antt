@@ -3,8 +3,8 @@ use mathlib.Core.Path.{_≡_}
 use Prim.Native.Nat.{_≤_}
 use lib.ListN.{length}
 use borrow.Author.Needs.{needs}
-use Rattle.digests.proofs.draws.draw_table.Statement.{statement}
-use Rattle.digests.proofs.draws.draw_table.Tie as tie
+use Rattle.drawing.proofs.draws.draw_table.Statement.{statement}
+use Rattle.drawing.proofs.draws.draw_table.Tie as tie
 
 abbrev Inv-loop : tie.InvT-loop
 Inv-loop state table₀ s₀ end₀ table s end = (length table ≡ length table₀) × (end ≤ length table)

@@ -2,8 +2,8 @@
 use lib.ListN.{length-set}
 use native.Mathlib.Omega.{arith}
 use borrow.Author.Needs.{needs}
-use Rattle.digests.proofs.draws.draw_gate.Statement.{statement}
-use Rattle.digests.proofs.draws.draw_gate.Tie as tie
+use Rattle.drawing.proofs.draws.draw_gate.Statement.{statement}
+use Rattle.drawing.proofs.draws.draw_gate.Tie as tie
 
 advance-requires : tie.Need-advance-requires
 advance-requires c κs = search needs

@@ -1,24 +1,24 @@
--- `digests::orders::last_above` meets its contract: the place stays within the table. Assumes nothing.
+-- `digests::orders::last_rise` meets its contract: the place stays within the table. Assumes nothing.
 use Prim.Native.Nat.{_≤_}
 use lib.ListN.{length}
 use borrow.Author.Needs.{needs}
-use Rattle.digests.proofs.orders.last_above.Statement.{statement}
-use Rattle.digests.proofs.orders.last_above.Tie as tie
+use Rattle.drawing.proofs.orders.last_rise.Statement.{statement}
+use Rattle.drawing.proofs.orders.last_rise.Tie as tie
 
 abbrev Inv-loop : tie.InvT-loop
-Inv-loop table k m₀ m = m ≤ length table
+Inv-loop table k₀ k = k ≤ length table
 
 abbrev μ-loop : tie.MeasureT-loop
-μ-loop table k m₀ m = m
+μ-loop table k₀ k = k
 
 loop-holds : tie.Need-loop-holds Inv-loop μ-loop
 loop-holds c = search needs
 
-add-loop : tie.Need-add-loop Inv-loop μ-loop
-add-loop c = search needs
+sub-k : tie.Need-sub-k Inv-loop μ-loop
+sub-k c = search needs
 
-sub-m : tie.Need-sub-m Inv-loop μ-loop
-sub-m c = search needs
+sub-if1 : tie.Need-sub-if1 Inv-loop μ-loop
+sub-if1 c = search needs
 
 mul-if1 : tie.Need-mul-if1 Inv-loop μ-loop
 mul-if1 c = search needs
@@ -44,15 +44,15 @@ loop-again c = search needs
 returns-2 : tie.Need-returns-2 Inv-loop μ-loop
 returns-2 c = search needs
 
-pub last-above-spec : {M : Type 1} → statement M
-last-above-spec =
+pub last-rise-spec : {M : Type 1} → statement M
+last-rise-spec =
     tie.close
     (tie.spec
     Inv-loop
     μ-loop
     loop-holds
-    add-loop
-    sub-m
+    sub-k
+    sub-if1
     mul-if1
     shared-slice-read-if1
     mul-if1-2

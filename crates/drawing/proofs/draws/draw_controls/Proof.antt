@@ -3,8 +3,8 @@ use mathlib.Core.Path.{_≡_}
 use Prim.Native.Nat.{_-_}
 use lib.ListN.{length}
 use borrow.Author.Needs.{needs}
-use Rattle.digests.proofs.draws.draw_controls.Statement.{statement}
-use Rattle.digests.proofs.draws.draw_controls.Tie as tie
+use Rattle.drawing.proofs.draws.draw_controls.Statement.{statement}
+use Rattle.drawing.proofs.draws.draw_controls.Tie as tie
 
 abbrev Inv-loop : tie.InvT-loop
 Inv-loop state lines target room₀ at s₀ k₀ room s k = length room ≡ length room₀

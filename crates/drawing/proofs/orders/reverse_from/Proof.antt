@@ -3,8 +3,8 @@ use mathlib.Core.Path.{_≡_}
 use Prim.Native.Nat.{_≤_}
 use lib.ListN.{length}
 use borrow.Author.Needs.{needs}
-use Rattle.digests.proofs.orders.reverse_from.Statement.{statement}
-use Rattle.digests.proofs.orders.reverse_from.Tie as tie
+use Rattle.drawing.proofs.orders.reverse_from.Statement.{statement}
+use Rattle.drawing.proofs.orders.reverse_from.Tie as tie
 
 abbrev Inv-loop : tie.InvT-loop
 Inv-loop table₀ start a₀ b₀ table a b = (length table ≡ length table₀) × (a ≤ length table) × (b ≤ length table)

@@ -3,8 +3,8 @@ use mathlib.Core.Path.{_≡_}
 use Prim.Native.Nat.{_-_, _*_, _≤_}
 use lib.ListN.{length}
 use borrow.Author.Needs.{needs}
-use Rattle.digests.proofs.draws.draw_gates.Statement.{statement}
-use Rattle.digests.proofs.draws.draw_gates.Tie as tie
+use Rattle.drawing.proofs.draws.draw_gates.Statement.{statement}
+use Rattle.drawing.proofs.draws.draw_gates.Tie as tie
 
 abbrev Inv-loop : tie.InvT-loop
 Inv-loop state lines room₀ count s₀ i₀ room s i = (length room ≡ length room₀) × (8 * count ≤ length room)
