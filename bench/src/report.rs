@@ -4,14 +4,14 @@ use crate::calls::Timer;
 use crate::clock::Times;
 
 /// A call on an input, and how many times the second program's time the proved
-/// side may take.
+/// side may take, where that has an aim.
 #[derive(Clone, Copy)]
 pub struct What<'a> {
     pub call: &'a str,
     pub lines: u8,
     /// Gates of a cascade, entries of a table, or tables.
     pub size: usize,
-    pub aim: f64,
+    pub aim: Option<f64>,
 }
 
 /// Prints a line for each comparison as it is made.
@@ -40,11 +40,12 @@ impl Report {
         let [proved, second] = time(&self.timer);
         // What else the machine does only adds time, so the least times are compared.
         let ratio = proved.least / second.least;
-        let missed = ratio > aim;
+        let missed = aim.is_some_and(|aim| ratio > aim);
+        let aim = aim.map_or("-".to_string(), |aim| format!("{aim:.2}"));
         self.lines += 1;
         self.missed += missed as usize;
         println!(
-            "{call:<46}{lines:>5}{:>8}{:>10}{:>10}{:>10}{:>10}{ratio:>8.2}{aim:>6.2}{}",
+            "{call:<46}{lines:>5}{:>8}{:>10}{:>10}{:>10}{:>10}{ratio:>8.2}{aim:>6}{}",
             grouped(size),
             duration(proved.median),
             duration(proved.least),

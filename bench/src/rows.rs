@@ -12,8 +12,11 @@ use crate::inputs::{
 };
 use crate::report::{Report, What};
 
-const AIM: f64 = 1.0;
-const SYNTHESIS_AIM: f64 = 1.2;
+// The aims, where speed is felt: six lines, long cascades, worst cases. Tables and
+// cascades of a few entries have none.
+const SYNTHESIS: f64 = 1.3;
+const LONG: f64 = 2.0;
+const TIDYING: f64 = 1.0;
 
 pub fn print(report: &mut Report) {
     synthesis(report);
@@ -27,7 +30,8 @@ pub fn print(report: &mut Report) {
 fn synthesis(report: &mut Report) {
     for lines in 1..=6 {
         let mut line = |call, tables: &[Vec<u16>]| {
-            let what = What { call, lines, size: patterns(lines), aim: SYNTHESIS_AIM };
+            let aim = (lines == 6).then_some(SYNTHESIS);
+            let what = What { call, lines, size: patterns(lines), aim };
             report.line(what, |timer| timer.synthesize(lines, tables));
         };
         line("synthesize, drawn tables in turn", &drawn_tables(lines, 50));
@@ -37,7 +41,7 @@ fn synthesis(report: &mut Report) {
     }
     let all = all_tables(patterns(2) as u16);
     let call = "synthesize, all two-line tables in one go";
-    let what = What { call, lines: 2, size: all.len() / patterns(2), aim: SYNTHESIS_AIM };
+    let what = What { call, lines: 2, size: all.len() / patterns(2), aim: None };
     report.line(what, |timer| timer.synthesize_all(2, &all));
 }
 
@@ -45,14 +49,15 @@ fn tables(report: &mut Report) {
     for lines in 1..=6 {
         let tables = drawn_tables(lines, 50);
         let call = "check_table, drawn tables in turn";
-        let what = What { call, lines, size: patterns(lines), aim: AIM };
+        let what = What { call, lines, size: patterns(lines), aim: None };
         report.line(what, |timer| timer.check_table(lines, &tables));
     }
 }
 
 /// A call on a cascade on six lines.
 fn on<'a>(call: &'a str, cascade: &[u8]) -> What<'a> {
-    What { call, lines: 6, size: cascade.len() / RECORD, aim: AIM }
+    let size = cascade.len() / RECORD;
+    What { call, lines: 6, size, aim: (size == MOST_GATES).then_some(LONG) }
 }
 
 fn cascades(report: &mut Report) {
@@ -68,7 +73,9 @@ fn cascades(report: &mut Report) {
     report.line(on("tabulate, drawn gates", drawn), |timer| timer.tabulate(6, drawn));
     report.line(on("tabulate, a synthesized cascade", found), |timer| timer.tabulate(6, found));
     report.line(on("tabulate, gates with no controls", bare), |timer| timer.tabulate(6, bare));
-    report.line(on("price, drawn gates", drawn), |timer| timer.price(6, drawn));
+    // The base price is worked out anew for each gate, as document 01 says.
+    let price = What { aim: None, ..on("price, drawn gates", drawn) };
+    report.line(price, |timer| timer.price(6, drawn));
     report.line(on("invert, drawn gates", drawn), |timer| timer.invert(6, drawn));
     report.line(on("choose, two with the same table", &pair[0]), |timer| timer.choose(6, pair));
 }
@@ -90,14 +97,14 @@ fn texts(report: &mut Report) {
     let hardest = &hardest(6);
     report.line(on("listing, drawn gates", drawn), |timer| timer.listing(6, drawn));
     report.line(on("listing, a synthesized cascade", found), |timer| timer.listing(6, found));
-    let on_table = |call| What { call, lines: 6, size: patterns(6), aim: AIM };
+    let on_table = |call| What { call, lines: 6, size: patterns(6), aim: None };
     report.line(on_table("sheet, a drawn table"), |timer| timer.sheet(6, table));
     report.line(on_table("sheet, a table that reaches the bound"), |timer| timer.sheet(6, hardest));
 }
 
 fn tidying(report: &mut Report) {
     let mut line = |call: &str, lines, cascade: &[u8]| {
-        let what = What { lines, ..on(call, cascade) };
+        let what = What { lines, aim: Some(TIDYING), ..on(call, cascade) };
         report.line(what, |timer| timer.tidy(lines, cascade));
     };
     for lines in 3..=6 {
