@@ -1,32 +1,31 @@
 -- Records as numbers: the bytes of a word, and the tests that look at all of them at once. What is finite is computed: a byte has 256 values, a board
 -- at most six lines. Assumes nothing.
 use mathlib.Core.Path.{_≡_, refl, sym, ap, ap₂, _∙_}
-use mathlib.Core.Bool.{Bool, true, false, cond, not, _&&_, _||_, and-false, and-assoc}
+use mathlib.Core.Bool.{Bool, true, false, cond, not, _&&_, _||_, and-false}
 use mathlib.Core.List.{List, [], _∷_}
-use mathlib.Core.Logic.{_⊎_, ⊎-elim}
+use mathlib.Core.Logic.{_⊎_}
 use Prim.Native.Nat.{ℕ, zero, suc, _+_, _-_, _*_, _/_, _%_, _^_, _≤_, _<_}
 use native.Mathlib.Nat.{add-zero, zero-add, add-assoc, lt-of-le-of-lt}
 use native.Mathlib.Omega.{arith}
 use lib.Dec.{eqb, leb, ltb}
 use lib.ListN.{length, getD, take, drop}
 use lib.Seq.{getD-take, getD-drop}
-use lib.Bits.{bitAnd, bitXor, and-le-r, xor-zero-r, xor-block}
-use borrow.Author.Tests.{eqb-true, leb-true, ltb-true, ltb-false, eq-eqb, ne-eqb, le-leb, lt-leb, lt-ltb, le-ltb}
+use lib.Bits.{bitAnd, bitXor, and-le-r, and-zero-r, xor-zero-r, xor-block}
+use borrow.Author.Tests.{eqb-true, leb-true, ltb-true, ltb-false, eq-eqb, le-leb, lt-leb, lt-ltb, le-ltb}
 use Rattle.ranges.specs.Ranges.{every, sum}
-use Rattle.ranges.proofs.Bools.{and-left, and-right, decide, clash}
+use Rattle.ranges.proofs.Bools.{and-right, decide}
 use Rattle.ranges.proofs.Tests.{every-below, every-of, every-ext}
 use Rattle.digits.specs.Digits.{digit, pack}
-use Rattle.digits.proofs.Digits.{digit-zero, digit-suc, digit-lt, digit-low, digit-up, low-div, low-mod}
+use Rattle.digits.proofs.Digits.{digit-zero, digit-suc, digit-lt, digit-low, digit-up, digits-equal, low-div, low-mod}
 use Rattle.digits.proofs.Packs.{pack-ext, pack-digits}
-use Rattle.digits.proofs.Bits.{digit-and, digit-xor, digit-of-zero, zero-digits}
+use Rattle.digits.proofs.Bits.{digit-and}
 use Rattle.gates.specs.Gates.{inverseOp}
 use Rattle.gates.specs.Records.{lineOk, linesOkAt, packedAt, isRecord, gateAt, asRecord, decoded}
 use Rattle.gates.specs.declared.Record.{Record}
 use Rattle.card.specs.Card.{linesOk}
-use Rattle.card.proofs.Cards.{lines-are}
 use Rattle.gates.proofs.Operators.{inverse-bits}
 use Rattle.gates.proofs.Records.{reads, line-lt}
-use Rattle.gates.specs.Words.{byte, Word, bytesIn, linesOkIn, isWord, gateOf, bare, never, allBits, model, asked, faultsIn, Low}
+use Rattle.gates.specs.Words.{byte, Word, bytesIn, linesOkIn, isWord, gateOf, bare, Low}
 
 -- ---- what is computed
 
@@ -57,43 +56,12 @@ weight-some k le = leb-true _ _ (every-below (λ k. leb 1 (256 ^ k)) 7 refl k (o
 bytes-agree : (f g : ℕ → Bool) → every (λ x. cond (f x) (g x) (not (g x))) 0 256 ≡ true → (x : ℕ) → x < 256 → f x ≡ g x
 bytes-agree f g e x lt = same (f x) (g x) (every-below (λ x. cond (f x) (g x) (not (g x))) 256 e x lt)
 
--- what is wrong with one byte: the bits of a in which it is not as the model's byte m
-abbrev amiss : ℕ → ℕ → ℕ → ℕ
-amiss m a x = bitAnd (bitXor x m) a
-
--- the operator, or else the target, of which those bits are asked that no gate has; of which all are; and a control byte
-head-right : (operator : Bool) (x : ℕ) → x < 256 → eqb (amiss (cond operator 1 0) 248 x) 0 ≡ ltb x 8
+-- a byte of a word that is asked for the bits of `kept`: nothing is asked of the first two, and of a control that it is 3 or that it is below 4
+byte-right : (head none : Bool) (x : ℕ) → x < 256 → eqb (bitAnd x (cond head 0 (cond none 255 252))) (cond head 0 (cond none 3 0)) ≡ (head || cond none (eqb x 3) (leb x 3))
 unfolding every
-head-right true = bytes-agree (λ x. eqb (amiss 1 248 x) 0) (λ x. ltb x 8) refl
-head-right false = bytes-agree (λ x. eqb (amiss 0 248 x) 0) (λ x. ltb x 8) refl
-
-all-right : (operator : Bool) (x : ℕ) → x < 256 → eqb (amiss (cond operator 1 0) 255 x) 0 ≡ eqb x (cond operator 1 0)
-unfolding every
-all-right true = bytes-agree (λ x. eqb (amiss 1 255 x) 0) (λ x. eqb x 1) refl
-all-right false = bytes-agree (λ x. eqb (amiss 0 255 x) 0) (λ x. eqb x 0) refl
-
-byte-right : (none : Bool) (x : ℕ) → x < 256 → eqb (amiss 3 (cond none 255 252) x) 0 ≡ cond none (eqb x 3) (leb x 3)
-unfolding every
-byte-right true = bytes-agree (λ x. eqb (amiss 3 255 x) 0) (λ x. eqb x 3) refl
-byte-right false = bytes-agree (λ x. eqb (amiss 3 252 x) 0) (λ x. leb x 3) refl
-
--- an operator or a target of 8 or more is never right
-far-wrong : (operator ok : Bool) (x : ℕ) → x < 256 → 8 ≤ x → eqb (amiss (cond operator 1 0) (cond ok 248 255) x) 0 ≡ false
-far-wrong operator true x lt le = head-right operator x lt ∙ le-ltb x 8 le
-far-wrong true false x lt le = all-right true x lt ∙ ne-eqb x 1 (λ e. omega (arith, e, le))
-far-wrong false false x lt le = all-right false x lt ∙ ne-eqb x 0 (λ e. omega (arith, e, le))
-
-model-head : (k : ℕ) → k < 2 → byte k model ≡ cond (eqb k 0) 1 0
-unfolding every digit
-model-head k lt = eqb-true _ _ (every-below (λ k. eqb (byte k model) (cond (eqb k 0) 1 0)) 2 refl k lt)
-
-model-control : (k : ℕ) → k < 6 → byte (2 + k) model ≡ 3
-unfolding every digit
-model-control k lt = eqb-true _ _ (every-below (λ k. eqb (byte (2 + k) model) 3) 6 refl k lt)
-
-all-head : (k : ℕ) → k < 2 → byte k allBits ≡ 255
-unfolding every digit
-all-head k lt = eqb-true _ _ (every-below (λ k. eqb (byte k allBits) 255) 2 refl k lt)
+byte-right true none = λ x lt. rw and-zero-r
+byte-right false true = bytes-agree (λ x. eqb (bitAnd x 255) 3) (λ x. eqb x 3) refl
+byte-right false false = bytes-agree (λ x. eqb (bitAnd x 252) 0) (λ x. leb x 3) refl
 
 -- ---- bytes by place
 
@@ -132,110 +100,53 @@ pub length-word : (w : ℕ) → length (bytesIn w) ≡ 8
 unfolding bytesIn
 length-word w = refl
 
--- a number of m bytes is 0 exactly if a test holds of each byte that holds exactly of the byte 0
-pub none-in : (m z : ℕ) (f : ℕ → Bool) → z < 256 ^ m → ((k : ℕ) → k < m → eqb (byte k z) 0 ≡ f k) → eqb z 0 ≡ every f 0 m
-none-in m z f low h = ⊎-elim (λ (e : eqb z 0 ≡ true). e ∙ sym (yes e)) (λ (e : eqb z 0 ≡ false). e ∙ sym (no e (decide (every f 0 m)))) (decide (eqb z 0))
+-- two numbers of m digits are equal exactly if a test holds of each digit that says so of the digit
+pub digits-agree : (r m x y : ℕ) (f : ℕ → Bool) → 0 < r → x < r ^ m → y < r ^ m → ((k : ℕ) → k < m → eqb (digit r k x) (digit r k y) ≡ f k) → eqb x y ≡ every f 0 m
+digits-agree r m x y f pos lx ly h = go (decide (eqb x y)) (decide (every f 0 m))
   where
-    yes : eqb z 0 ≡ true → every f 0 m ≡ true
-    yes e = every-of f m (λ k lt. sym (h k lt) ∙ eq-eqb (byte k z) 0 (ap (λ (x : ℕ). byte k x) (eqb-true z 0 e) ∙ digit-of-zero 256 k (omega arith)))
+    go : (eqb x y ≡ true) ⊎ (eqb x y ≡ false) → (every f 0 m ≡ true) ⊎ (every f 0 m ≡ false) → eqb x y ≡ every f 0 m
+    go (_⊎_.inl e) q = e ∙ sym (every-of f m (λ k lt. sym (h k lt) ∙ eq-eqb (digit r k x) (digit r k y) (ap (digit r k) (eqb-true x y e))))
+    go (_⊎_.inr e) (_⊎_.inl q) = eq-eqb x y (digits-equal r m x y pos lx ly (λ k lt. eqb-true (digit r k x) (digit r k y) (h k lt ∙ every-below f m q k lt))) ∙ sym q
+    go (_⊎_.inr e) (_⊎_.inr q) = e ∙ sym q
 
-    no : eqb z 0 ≡ false → (every f 0 m ≡ true) ⊎ (every f 0 m ≡ false) → every f 0 m ≡ false
-    no e (_⊎_.inl q) = clash (eqb z 0) (eq-eqb z 0 (zero-digits 256 m z (omega arith) (omega (arith, low)) low (λ k lt. eqb-true (byte k z) 0 (h k lt ∙ every-below f m q k lt)))) e
-    no e (_⊎_.inr q) = q
+-- the bits that are asked of the control bytes of a gate on n lines with target t
+abbrev kept : ℕ → ℕ → ℕ
+kept n t = 18229723555195256832 + bare n t
 
--- the bytes of the faults
-fault-byte : (a w k : ℕ) → byte k (faultsIn a w) ≡ amiss (byte k model) (byte k a) (byte k w)
-unfolding faultsIn
-fault-byte a w k =
-    let m : digit 256 k (bitAnd (bitXor w model) a) ≡ bitAnd (byte k (bitXor w model)) (byte k a) = digit-and 8 k (bitXor w model) a in
-    let x : digit 256 k (bitXor w model) ≡ bitXor (byte k w) (byte k model) = digit-xor 8 k w model in
-    rw (m, x)
+-- a test of each byte that holds on every board
+boards : (f : ℕ → ℕ → ℕ → Bool) → every (λ n. every (λ t. cond (ltb t n) (every (f n t) 0 8) true) 0 6) 0 7 ≡ true → (n t : ℕ) → n ≤ 6 → t < n → (k : ℕ) → k < 8 → f n t k ≡ true
+boards f all n t six on k lt =
+    let one = every-below (λ t. cond (ltb t n) (every (f n t) 0 8) true) 6 (every-below (λ n. every (λ t. cond (ltb t n) (every (f n t) 0 8) true) 0 6) 7 all n (omega arith)) t (omega arith) in
+    every-below (f n t) 8 (rw (lt-ltb t n on) at one) k lt
 
-fault-lt : (a w : ℕ) → a < 256 ^ 8 → faultsIn a w < 256 ^ 8
-unfolding faultsIn
-fault-lt a w lt = lt-of-le-of-lt (and-le-r (bitXor w model) a) lt
-
--- where there are none, no byte has any
-fault-none : (a w k : ℕ) → faultsIn a w ≡ 0 → eqb (amiss (byte k model) (byte k a) (byte k w)) 0 ≡ true
-fault-none a w k e = eq-eqb (amiss (byte k model) (byte k a) (byte k w)) 0 (sym (fault-byte a w k) ∙ ap (λ (x : ℕ). byte k x) e ∙ digit-of-zero 256 k (omega arith))
-
--- and where all bits are asked, the operator is the model's, and the target
-all-none : (w k : ℕ) → k < 2 → faultsIn allBits w ≡ 0 → byte k w ≡ cond (eqb k 0) 1 0
-all-none w k lt e =
-    let none = fault-none allBits w k e in
-    eqb-true (byte k w) (cond (eqb k 0) 1 0) (sym (all-right (eqb k 0) (byte k w) (digit-lt 256 k w (omega arith))) ∙ rw (model-head k lt, all-head k lt) at none)
+-- byte k is that of a line that can have no control
+abbrev none : ℕ → ℕ → ℕ → Bool
+none n t k = eqb (k - 2) t || leb n (k - 2)
 
 module _ (n t : ℕ) (six : n ≤ 6) (on : t < n) where
-  bare-control : (k : ℕ) → k < 6 → byte (2 + k) (never + bare n t) ≡ cond (eqb k t || leb n k) 255 252
+  bare-byte : (k : ℕ) → k < 8 → byte k (bare n t) ≡ cond (ltb k 2) 0 (cond (none n t k) 3 0)
   unfolding every digit bare
-  bare-control k lt =
-      let test : ℕ → ℕ → ℕ → Bool = λ n t k. cond (ltb t n) (eqb (byte (2 + k) (never + bare n t)) (cond (eqb k t || leb n k) 255 252)) true in
-      let all : every (λ n. every (λ t. every (test n t) 0 6) 0 6) 0 7 ≡ true = refl in
-      let one = every-below (test n t) 6 (every-below (λ t. every (test n t) 0 6) 6 (every-below (λ n. every (λ t. every (test n t) 0 6) 0 6) 7 all n (omega arith)) t (omega arith)) k lt in
-      eqb-true _ _ (rw (lt-ltb t n on) at one)
+  bare-byte k lt = eqb-true _ _ (boards (λ n t k. eqb (byte k (bare n t)) (cond (ltb k 2) 0 (cond (none n t k) 3 0))) refl n t six on k lt)
 
-  bare-head : (k : ℕ) → k < 2 → byte k (never + bare n t) ≡ 248
+  kept-byte : (k : ℕ) → k < 8 → byte k (kept n t) ≡ cond (ltb k 2) 0 (cond (none n t k) 255 252)
   unfolding every digit bare
-  bare-head k lt =
-      let test : ℕ → ℕ → ℕ → Bool = λ n t k. eqb (byte k (never + bare n t)) 248 in
-      let all : every (λ n. every (λ t. every (test n t) 0 2) 0 6) 0 7 ≡ true = refl in
-      eqb-true _ _ (every-below (test n t) 2 (every-below (λ t. every (test n t) 0 2) 6 (every-below (λ n. every (λ t. every (test n t) 0 2) 0 6) 7 all n (omega arith)) t (omega arith)) k lt)
+  kept-byte k lt = eqb-true _ _ (boards (λ n t k. eqb (byte k (kept n t)) (cond (ltb k 2) 0 (cond (none n t k) 255 252))) refl n t six on k lt)
 
-  -- the two parts leave a word
-  pub bare-lt : never + bare n t < 256 ^ 8
+  pub kept-lt : kept n t < 256 ^ 8
   unfolding every bare
-  bare-lt =
-      let test : ℕ → ℕ → Bool = λ n t. cond (ltb t n) (ltb (never + bare n t) (256 ^ 8)) true in
-      let all : every (λ n. every (test n) 0 6) 0 7 ≡ true = refl in
-      let one = every-below (test n) 6 (every-below (λ n. every (test n) 0 6) 7 all n (omega arith)) t (omega arith) in
-      ltb-true _ _ (rw (lt-ltb t n on) at one)
+  kept-lt = ltb-true _ _ (boards (λ n t k. ltb (kept n t) (256 ^ 8)) refl n t six on 0 (omega arith))
 
-  -- all bytes at once
-  module _ (w : ℕ) where
-    abbrev right : ℕ → Bool
-    right k = cond (ltb k 2) (ltb (byte k w) 8) (lineOk n t (k - 2) (byte k w))
-
-    fault-right : (k : ℕ) → k < 8 → eqb (byte k (faultsIn (never + bare n t) w)) 0 ≡ right k
-    unfolding lineOk
-    fault-right k lt = ap (λ (x : ℕ). eqb x 0) (fault-byte (never + bare n t) w k) ∙ go (decide (ltb k 2))
-      where
-        go : (ltb k 2 ≡ true) ⊎ (ltb k 2 ≡ false) → eqb (amiss (byte k model) (byte k (never + bare n t)) (byte k w)) 0 ≡ right k
-        go (_⊎_.inl e) =
-            let l = ltb-true k 2 e in
-            rw (e, model-head k l, bare-head k l) (head-right (eqb k 0) (byte k w) (digit-lt 256 k w (omega arith)))
-        go (_⊎_.inr e) =
-            let two : 2 + (k - 2) ≡ k = omega (arith, ltb-false k 2 e) in
-            let m4 : byte (2 + (k - 2)) model ≡ 3 = model-control (k - 2) (omega (arith, lt, ltb-false k 2 e)) in
-            let b4 : byte (2 + (k - 2)) (never + bare n t) ≡ cond (eqb (k - 2) t || leb n (k - 2)) 255 252 = bare-control (k - 2) (omega (arith, lt, ltb-false k 2 e)) in
-            rw (e, rw two at m4, rw two at b4) (byte-right (eqb (k - 2) t || leb n (k - 2)) (byte k w) (digit-lt 256 k w (omega arith)))
-
-    pub fault-bare : eqb (faultsIn (never + bare n t) w) 0 ≡ (ltb (byte 0 w) 8 && ltb (byte 1 w) 8 && linesOkIn n t w)
-    unfolding linesOkIn every
-    fault-bare =
-        none-in 8 (faultsIn (never + bare n t) w) right (fault-lt (never + bare n t) w bare-lt) fault-right
-        ∙ sym (and-assoc (ltb (byte 0 w) 8) (ltb (byte 1 w) 8) (linesOkIn n t w))
-
--- an operator or a target of 8 or more has bits that no gate has, and these are always asked
-module _ (n h : ℕ) (six : n ≤ 6) where
-  -- a gate on n lines may have the operator and the target that h is
-  abbrev headed : Bool
-  headed = (leb 1 (h % 8) && leb (h % 8) 5) && ltb (h / 8) n
-
-  asked-head : (k : ℕ) → k < 2 → byte k (asked n h) ≡ cond headed 248 255
-  unfolding asked
-  asked-head k lt = go (decide headed)
+  -- all control bytes at once
+  pub lines-asked : (w : ℕ) → eqb (bitAnd w (kept n t)) (bare n t) ≡ linesOkIn n t w
+  unfolding linesOkIn lineOk every
+  lines-asked w =
+      digits-agree 256 8 (bitAnd w (kept n t)) (bare n t) (λ k. ltb k 2 || lineOk n t (k - 2) (byte k w)) (omega arith) (lt-of-le-of-lt (and-le-r w (kept n t)) kept-lt)
+      (omega (arith, kept-lt)) each
     where
-      go : (headed ≡ true) ⊎ (headed ≡ false) → byte k (cond headed (never + bare n (h / 8)) allBits) ≡ cond headed 248 255
-      go (_⊎_.inl e) = rw e (bare-head n (h / 8) six (ltb-true (h / 8) n (and-right (leb 1 (h % 8) && leb (h % 8) 5) (ltb (h / 8) n) e)) k lt)
-      go (_⊎_.inr e) = rw e (all-head k lt)
-
-  fault-far : (w k : ℕ) → k < 2 → 8 ≤ byte k w → eqb (faultsIn (asked n h) w) 0 ≡ false
-  fault-far w k lt le =
-      ne-eqb (faultsIn (asked n h) w) 0
-      (λ q.
-      let none = fault-none (asked n h) w k q in
-      clash (eqb (amiss (cond (eqb k 0) 1 0) (cond headed 248 255) (byte k w)) 0) (rw (model-head k lt, asked-head k lt) at none)
-      (far-wrong (eqb k 0) headed (byte k w) (digit-lt 256 k w (omega arith)) le))
+      each : (k : ℕ) → k < 8 → eqb (byte k (bitAnd w (kept n t))) (byte k (bare n t)) ≡ (ltb k 2 || lineOk n t (k - 2) (byte k w))
+      each k lt =
+          let a : digit 256 k (bitAnd w (kept n t)) ≡ bitAnd (byte k w) (byte k (kept n t)) = digit-and 8 k w (kept n t) in
+          rw (a, kept-byte k lt, bare-byte k lt) (byte-right (ltb k 2) (none n t k) (byte k w) (digit-lt 256 k w (omega arith)))
 
 -- ---- a word put together
 
@@ -431,61 +342,23 @@ module _ (w : ℕ) (low : Low w) (lt : w < 256 ^ 8) where
 
 -- ---- which gate a word is, or none
 
-head-sum : (w o t : ℕ) → w % 256 ≡ o → w / 256 % 256 ≡ t → o < 8 → t < 8 → (w % 65536 + w % 65536 / 32) % 64 ≡ o + 8 * t
-head-sum w o t eo et lo lt =
-    let low : w % 65536 ≡ o + 256 * t = omega arith in
-    let moved : (o + 256 * t) / 32 ≡ 8 * t = omega arith in
-    let all : o + 256 * t + 8 * t ≡ o + 8 * t + 64 * (4 * t) = omega arith in
-    rw (low, moved, all) (low-mod (4 * t) (omega arith))
-
-pub head-is : (w : ℕ) → byte 0 w < 8 → byte 1 w < 8 → (w % 65536 + w % 65536 / 32) % 64 ≡ byte 0 w + 8 * byte 1 w
-head-is w lo lt = head-sum w (byte 0 w) (byte 1 w) (sym (digit-zero 256 w)) (sym (byte-one w)) lo lt
-
 module _ (n w : ℕ) where
-  far-operator : 8 ≤ byte 0 w → isWord n w ≡ false
+  -- which of its tests a word fails first, or that the control bytes decide
+  pub word-op-low : w % 256 < 1 → isWord n w ≡ false
   unfolding isWord
-  far-operator le = rw (lt-leb (byte 0 w) 5 (omega (arith, le)), and-false (leb 1 (byte 0 w)))
+  word-op-low low = rw (digit-zero, lt-leb 1 (w % 256) low)
 
-  far-target : n ≤ 6 → 8 ≤ byte 1 w → isWord n w ≡ false
+  pub word-op-high : 5 < w % 256 → isWord n w ≡ false
   unfolding isWord
-  far-target six le = rw (le-ltb (byte 1 w) n (omega (arith, le)), and-false (leb 1 (byte 0 w) && leb (byte 0 w) 5))
+  word-op-high high = rw (digit-zero, lt-leb (w % 256) 5 high, and-false)
 
-  -- a gate on n lines may have this operator and this target
-  abbrev valid : Bool
-  valid = (leb 1 (byte 0 w) && leb (byte 0 w) 5) && ltb (byte 1 w) n
-
-  -- the model's are such
-  model-valid : 1 ≤ n → byte 0 w ≡ 1 → byte 1 w ≡ 0 → valid ≡ true
-  model-valid some o t = rw (o, t) (lt-ltb 0 n some)
-
-  near-faults : 1 ≤ n → n ≤ 6 → byte 0 w < 8 → byte 1 w < 8 → (valid ≡ true) ⊎ (valid ≡ false) → eqb (faultsIn (cond valid (never + bare n (byte 1 w)) allBits) w) 0 ≡ isWord n w
+  pub word-target : n ≤ w / 256 % 256 → isWord n w ≡ false
   unfolding isWord
-  near-faults some six o t (_⊎_.inl v) =
-      rw v
-      (fault-bare n (byte 1 w) six (ltb-true (byte 1 w) n (and-right (leb 1 (byte 0 w) && leb (byte 0 w) 5) (ltb (byte 1 w) n) v)) w
-      ∙ rw (lt-ltb (byte 0 w) 8 o, lt-ltb (byte 1 w) 8 t))
-  near-faults some six o t (_⊎_.inr v) =
-      rw v
-      (ne-eqb (faultsIn allBits w) 0 (λ q. clash valid (model-valid some (all-none w 0 (omega arith) q) (all-none w 1 (omega arith) q)) v))
+  word-target off = rw (byte-one, le-ltb (w / 256 % 256) n off, and-false)
 
-  near-asked : (h : ℕ) → 1 ≤ n → n ≤ 6 → byte 0 w < 8 → byte 1 w < 8 → h ≡ byte 0 w + 8 * byte 1 w → eqb (faultsIn (asked n h) w) 0 ≡ isWord n w
-  unfolding asked
-  near-asked h some six o t head =
-      let operator : h % 8 ≡ byte 0 w = ap (λ (x : ℕ). x % 8) head ∙ low-mod (byte 1 w) o in
-      let target : h / 8 ≡ byte 1 w = ap (λ (x : ℕ). x / 8) head ∙ low-div (byte 1 w) o in
-      rw (operator, target) (near-faults some six o t (decide valid))
-
-  -- what is asked by operator and target decides
-  pub word-faults : (h : ℕ) → linesOk n ≡ true → (byte 0 w < 8 → byte 1 w < 8 → h ≡ byte 0 w + 8 * byte 1 w) → eqb (faultsIn (asked n h) w) 0 ≡ isWord n w
-  word-faults h ok head = go (lines-are n ok .1) (decide (ltb (byte 0 w) 8)) (decide (ltb (byte 1 w) 8))
-    where
-      go : n ≤ 6 → (ltb (byte 0 w) 8 ≡ true) ⊎ (ltb (byte 0 w) 8 ≡ false) → (ltb (byte 1 w) 8 ≡ true) ⊎ (ltb (byte 1 w) 8 ≡ false) → eqb (faultsIn (asked n h) w) 0 ≡ isWord n w
-      go six (_⊎_.inr p) q = (let le : 8 ≤ byte 0 w = omega (arith, ltb-false (byte 0 w) 8 p) in fault-far n h six w 0 (omega arith) le ∙ sym (far-operator le))
-      go six (_⊎_.inl p) (_⊎_.inr q) = (let le : 8 ≤ byte 1 w = omega (arith, ltb-false (byte 1 w) 8 q) in fault-far n h six w 1 (omega arith) le ∙ sym (far-target six le))
-      go six (_⊎_.inl p) (_⊎_.inl q) =
-          let o = ltb-true (byte 0 w) 8 p in
-          let t = ltb-true (byte 1 w) 8 q in
-          near-asked h (lines-are n ok .0) six o t (head o t)
+  pub word-lines : 1 ≤ w % 256 → w % 256 ≤ 5 → w / 256 % 256 < n → isWord n w ≡ linesOkIn n (w / 256 % 256) w
+  unfolding isWord
+  word-lines low high on = rw (digit-zero, byte-one, le-leb 1 (w % 256) low, le-leb (w % 256) 5 high, lt-ltb (w / 256 % 256) n on)
 
   -- a gate's control bytes are below 4
   pub word-low : isWord n w ≡ true → Low w
@@ -496,14 +369,3 @@ module _ (n w : ℕ) where
         each = λ k lt. line-lt n t k (byte (2 + k) w)
             (every-below (λ k. lineOk n t k (byte (2 + k) w)) 6 (and-right ((leb 1 (byte 0 w) && leb (byte 0 w) 5) && ltb (byte 1 w) n) (every (λ k. lineOk n t k (byte (2 + k) w)) 0 6) e) k lt);
       }
-
-  -- and its target a line
-  pub word-on : isWord n w ≡ true → byte 1 w < n
-  unfolding isWord
-  word-on e =
-      let ops : Bool = leb 1 (byte 0 w) && leb (byte 0 w) 5 in
-      ltb-true (byte 1 w) n (and-right ops (ltb (byte 1 w) n) (and-left (ops && ltb (byte 1 w) n) (linesOkIn n (byte 1 w) w) e))
-
-  pub gate-on : isWord n w ≡ true → gateOf w .target < n
-  unfolding gateOf
-  gate-on e = word-on e

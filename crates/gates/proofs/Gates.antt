@@ -1,17 +1,15 @@
 -- What a gate does: it stays within the patterns of its lines, a line without control does not matter to it, and its inverse takes it back.
 -- Assumes nothing.
-use mathlib.Core.Path.{_≡_, refl, sym, ap, _∙_}
-use mathlib.Core.Bool.{Bool, true, false, cond, _||_}
-use mathlib.Core.Logic.{_⊎_, ⊎-elim}
-use Prim.Native.Nat.{ℕ, zero, suc, _+_, _*_, _^_, _≤_, _<_}
+use mathlib.Core.Path.{_≡_, refl, _∙_}
+use mathlib.Core.Bool.{Bool, true, false, cond}
+use Prim.Native.Nat.{ℕ, _^_, _<_}
 use native.Mathlib.Decide.{ℕ-discrete}
 use native.Mathlib.Omega.{arith}
-use Rattle.ranges.specs.Ranges.{every}
 use Rattle.ranges.proofs.Tests.{every-ext}
 use Rattle.digits.specs.Digits.{digit, put}
 use Rattle.digits.proofs.Digits.{digit-lt, digit-put-same, digit-put-other, put-put, put-same, put-lt}
 use Rattle.gates.specs.declared.Gate.{Gate}
-use Rattle.gates.specs.Gates.{act, inverseOp, control, holds, firesOn, fires, applied, inverse, IsGate}
+use Rattle.gates.specs.Gates.{act, holds, firesOn, fires, applied, inverse, IsGate}
 use Rattle.gates.proofs.Operators.{act-lt, act-inverse, inverse-is-op, inverse-twice}
 
 pub applied-yes : (g : Gate) (p : ℕ) → fires g p ≡ true → applied g p ≡ put 3 (g .target) p (act (g .operator) (digit 3 (g .target) p))

@@ -3,3 +3,4 @@ pub mod Gates
 pub mod Records
 pub mod Bytes
 pub mod Marks
+pub mod Firing

@@ -11,7 +11,7 @@ use native.Mathlib.Omega.{arith}
 use lib.Dec.{eqb, leb, ltb}
 use lib.ListN.{length, getD, set}
 use lib.Seq.{sets, length-sets, set-getD}
-use borrow.Author.Tests.{leb-true, ltb-true, eqb-true, leb-false, le-leb, lt-leb, lt-ltb, le-ltb, eq-eqb, ne-eqb}
+use borrow.Author.Tests.{leb-true, ltb-true, eqb-true, leb-false, le-leb, lt-leb, lt-ltb, eq-eqb, ne-eqb}
 use Rattle.ranges.proofs.Bools.{and-left, and-right, decide}
 use Rattle.ranges.proofs.Tests.{every-below, every-of}
 use Rattle.ranges.proofs.Stores.{getD-sets}
@@ -80,28 +80,16 @@ reads n b at e =
       lines = and-right (A && o && t) _ e;
     }
 
--- which of its tests bytes fail first, or that the control bytes decide
-pub record-short : (n : ℕ) (b : List ℕ) (at : ℕ) → length b < at + 8 → isRecord n b at ≡ false
+-- bytes that are too short are none; and where the other tests hold the control bytes decide
+pub record-short : (n : ℕ) (b : List ℕ) (at : ℕ) → leb (at + 8) (length b) ≡ false → isRecord n b at ≡ false
 unfolding isRecord
-record-short n b at short = rw (lt-leb (at + 8) (length b) short)
+record-short n b at short = rw short
 
-module _ (n : ℕ) (b : List ℕ) (at : ℕ) (fits : at + 8 ≤ length b) where
-  pub record-op-low : getD b at 0 < 1 → isRecord n b at ≡ false
-  unfolding isRecord
-  record-op-low low = rw (le-leb (at + 8) (length b) fits, lt-leb 1 (getD b at 0) low)
-
-  pub record-op-high : 5 < getD b at 0 → isRecord n b at ≡ false
-  unfolding isRecord
-  record-op-high high = rw (le-leb (at + 8) (length b) fits, le-leb 1 (getD b at 0) (omega arith), lt-leb (getD b at 0) 5 high)
-
-  module _ (op-low : 1 ≤ getD b at 0) (op-high : getD b at 0 ≤ 5) where
-    pub record-target : n ≤ getD b (at + 1) 0 → isRecord n b at ≡ false
-    unfolding isRecord
-    record-target off = rw (le-leb (at + 8) (length b) fits, le-leb 1 (getD b at 0) op-low, le-leb (getD b at 0) 5 op-high, le-ltb (getD b (at + 1) 0) n off)
-
-    pub record-lines : getD b (at + 1) 0 < n → isRecord n b at ≡ linesOkAt n (getD b (at + 1) 0) b at
-    unfolding isRecord
-    record-lines on = rw (le-leb (at + 8) (length b) fits, le-leb 1 (getD b at 0) op-low, le-leb (getD b at 0) 5 op-high, lt-ltb (getD b (at + 1) 0) n on)
+pub record-lines : (n : ℕ) (b : List ℕ) (at : ℕ) → at + 8 ≤ length b → 1 ≤ getD b at 0 → getD b at 0 ≤ 5 → getD b (at + 1) 0 < n
+    → isRecord n b at ≡ linesOkAt n (getD b (at + 1) 0) b at
+unfolding isRecord
+record-lines n b at fits op-low op-high on =
+    rw (le-leb (at + 8) (length b) fits, le-leb 1 (getD b at 0) op-low, le-leb (getD b at 0) 5 op-high, lt-ltb (getD b (at + 1) 0) n on)
 
 -- the control bytes of a record, one by one
 module _ (n t : ℕ) (b : List ℕ) (at : ℕ) (ok : linesOkAt n t b at ≡ true) where
@@ -245,10 +233,6 @@ module _ (n : ℕ) (b : List ℕ) (at : ℕ) where
   pub decoded-is : linesOk n ≡ true → isRecord n b at ≡ true → decoded n b at ≡ asRecord (gateAt b at)
   unfolding decoded
   decoded-is e f = rw (e, f)
-
-  pub decoded-gate : (c : ℕ) → linesOk n ≡ true → isRecord n b at ≡ true → packedAt b at ≡ c → decoded n b at ≡ Record.Gate (getD b at 0) (getD b (at + 1) 0) c
-  unfolding gateAt
-  decoded-gate c e f v = decoded-is e f ∙ rw v
 
   -- what an answer says of the bytes
   pub record Gives (g : Gate) : Type 0 where

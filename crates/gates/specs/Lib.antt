@@ -1,3 +1,4 @@
 pub mod Gates
 pub mod Records
 pub mod Words
+pub mod Quads

@@ -1,16 +1,14 @@
-// Gates: what an operator does, its inverse, and the record of 8 bytes; `words` has when a gate fires and what it does.
+// Gates: what an operator does, its inverse, and the record of 8 bytes; `quads` has when a gate fires and what it does.
 ghost use mathlib.Core.Path.{_≡_};
-ghost use mathlib.Core.Bool.{true, cond};
 ghost use Prim.Native.Nat.{_+_, _≤_, _<_};
+ghost use lib.Dec.{leb};
 ghost use lib.ListN.{length};
 ghost use lib.Seq.{sets};
-ghost use Rattle.ranges.specs.Ranges.{span};
-ghost use Rattle.card.specs.Card.{linesOk};
 ghost use Rattle.gates.specs.Gates.{act, inverseOp};
-ghost use Rattle.gates.specs.Records.{asRecord, decoded, recordOf};
-ghost use Rattle.gates.specs.Words.{Low, gateOf, asked};
-ghost use Rattle.gates.specs.declared.Record.{Record};
+ghost use Rattle.gates.specs.Records.{decoded, recordOf};
 
+pub mod controls;
+pub mod quads;
 pub mod words;
 
 // A gate: the controls of x0 to x5 are packed in base 4, 3 for none.
@@ -34,7 +32,7 @@ pub enum Record {
 }
 
 // The operator's value at a digit.
-fn act_on(operator: u8, x: u16) -> u16
+pub fn act_on(operator: u8, x: u16) -> u16
     requires { ⌜ x < 3 ⌝ }
     ensures { λ r. ⌜ r ≡ act operator x ⌝ }
 {
@@ -53,23 +51,14 @@ pub fn invert_op(operator: u8) -> u8
     if operator < 3 { 3 - operator } else { operator }
 }
 
-// A word as a record, whether it is a gate being known.
-fn record_of(right: bool, w: u64, at: usize) -> Record
-    requires { ⌜ (right ≡ true → Low w) ⌝ }
-    ensures { λ r. ⌜ r ≡ cond right (asRecord (gateOf w)) (Record.Refused 7 at) ⌝ }
+// The 8 bytes from a place on end at an offset or before it. The sum is not made: it might wrap around.
+pub fn ends_by(at: usize, end: usize) -> bool
+    ensures { λ r. ⌜ r ≡ leb (at + 8) end ⌝ }
 {
-    if !right {
-        return Record::Refused {
-            number: 7,
-            place: at,
-        };
+    if end < 8 {
+        return false;
     }
-    let g = words::gate_of(w);
-    Record::Gate {
-        operator: g.operator,
-        target: g.target,
-        controls: g.controls,
-    }
+    at <= end - 8
 }
 
 // The record at a place: a gate on so many lines, or a refusal.
@@ -82,29 +71,25 @@ pub fn decode(lines: u8, bytes: &[u8], at: usize) -> Record
             place: 0,
         };
     }
-    if bytes.len() < 8 {
-        return Record::Refused {
-            number: 7,
-            place: at,
-        };
-    }
-    if bytes.len() - 8 < at {
+    if !ends_by(at, bytes.len()) {
         return Record::Refused {
             number: 7,
             place: at,
         };
     }
     let w = words::word_at(bytes, at);
-    record_of(words::is_gate(lines, w), w, at)
-}
-
-// The same for those who look at many records, by the row of what is asked of each.
-pub fn decode_by(lines: u8, row: &[u64], bytes: &[u8], at: usize) -> Record
-    requires { ⌜ (linesOk lines ≡ true) × (now row ≡ span (asked lines) 0 64) × (at + 8 ≤ length (now bytes)) ⌝ }
-    ensures { λ r. ⌜ r ≡ decoded lines (now (bytes .entry)) at ⌝ }
-{
-    let w = words::word_at(bytes, at);
-    record_of(words::faults_by(lines, row, w) == 0, w, at)
+    if !words::is_gate(lines, w) {
+        return Record::Refused {
+            number: 7,
+            place: at,
+        };
+    }
+    let g = words::gate_of(w);
+    Record::Gate {
+        operator: g.operator,
+        target: g.target,
+        controls: g.controls,
+    }
 }
 
 // The gate's record, stored at a place.

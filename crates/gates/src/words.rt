@@ -1,16 +1,14 @@
 // A record as one number of 64 bits, its first byte lowest: all bytes are looked at at once.
 ghost use mathlib.Core.Path.{_≡_};
-ghost use mathlib.Core.Bool.{true, cond};
+ghost use mathlib.Core.Bool.{true};
 ghost use Prim.Native.Nat.{ℕ, _+_, _*_, _/_, _≤_, _<_, _^_};
-ghost use lib.Dec.{eqb};
 ghost use lib.ListN.{length, getD};
 ghost use lib.Seq.{sets};
-ghost use Rattle.ranges.specs.Ranges.{span};
-ghost use Rattle.digits.specs.Digits.{put, pack};
+ghost use Rattle.digits.specs.Digits.{pack};
 ghost use Rattle.card.specs.Card.{linesOk};
-ghost use Rattle.gates.specs.Gates.{act, inverseOp};
+ghost use Rattle.gates.specs.Gates.{inverseOp};
 ghost use Rattle.gates.specs.Records.{recordOf};
-ghost use Rattle.gates.specs.Words.{byte, Word, bytesIn, bare, asked, faultsIn, isWord, gateOf, Low, Held, controlMarks, otherMarks, Spread, firesIn, movedBy};
+ghost use Rattle.gates.specs.Words.{byte, Word, bytesIn, bare, isWord, gateOf, Low, controlMarks, otherMarks};
 use super::Gate;
 
 fn wide(x: u8) -> u64
@@ -72,66 +70,26 @@ fn bare_bytes(n: u64, t: u64) -> u64
     65536 * (0x030303030303 / lines * lines + 3 * weight(t))
 }
 
-// The bits that are asked of a record with this head: all where no gate has the head.
-fn ask(n: u64, head: u64) -> u64
-    requires { ⌜ n ≤ 6 ⌝ }
-    ensures { λ r. ⌜ r ≡ asked n head ⌝ }
-{
-    let target = head / 8;
-    if n <= target {
-        return 0xffffffffffffffff;
-    }
-    let operator = head % 8;
-    if operator < 1 {
-        return 0xffffffffffffffff;
-    }
-    if 5 < operator {
-        return 0xffffffffffffffff;
-    }
-    0xfcfcfcfcfcfcf8f8 + bare_bytes(n, target)
-}
-
-// What is asked by each head, for those who look at many records.
-pub fn write_asked(lines: u8, row: &mut [u64])
-    requires { ⌜ (linesOk lines ≡ true) × (length (now row) ≡ 64) ⌝ }
-    ensures { λ _. ⌜ now (row .exit) ≡ span (asked lines) 0 64 ⌝ }
-{
-    let mut head: usize = 0;
-    while head < 64 {
-        row[head] = ask(lines as u64, head as u64);
-        head = head + 1;
-    }
-}
-
-// The operator and 8 times the target, where both are below 8.
-fn head_of(w: u64) -> u64
-    ensures { λ r. ⌜ (r < 64) × (byte 0 w < 8 → byte 1 w < 8 → r ≡ byte 0 w + 8 * byte 1 w) ⌝ }
-{
-    let low = w % 65536;
-    (low + low / 32) % 64
-}
-
-// The bits that are asked and are not those of C1 on x0 without controls, which is a gate on any board.
-fn faults(a: u64, w: u64) -> u64
-    ensures { λ r. ⌜ r ≡ faultsIn a w ⌝ }
-{
-    (w ^ 0x0303030303030001) & a
-}
-
-// The word is a gate on so many lines.
+// The word is a gate on so many lines. Byte 0 is the operator, byte 1 the target, byte 2 + k the control of line k: no control has a bit of 0xfc, and where
+// none may stand both bits of 3 are set.
 pub fn is_gate(lines: u8, w: u64) -> bool
     requires { ⌜ linesOk lines ≡ true ⌝ }
     ensures { λ r. ⌜ r ≡ isWord lines w ⌝ }
 {
-    faults(ask(lines as u64, head_of(w)), w) == 0
-}
-
-// The same by the row of what is asked: 0 for a gate.
-pub fn faults_by(lines: u8, row: &[u64], w: u64) -> u64
-    requires { ⌜ (linesOk lines ≡ true) × (now row ≡ span (asked lines) 0 64) ⌝ }
-    ensures { λ r. ⌜ eqb r 0 ≡ isWord lines w ⌝ }
-{
-    faults(row[head_of(w) as usize], w)
+    let n = lines as u64;
+    let operator = w % 256;
+    let target = w / 256 % 256;
+    if operator < 1 {
+        return false;
+    }
+    if 5 < operator {
+        return false;
+    }
+    if n <= target {
+        return false;
+    }
+    let bare = bare_bytes(n, target);
+    w & (0xfcfcfcfcfcfc0000 + bare) == bare
 }
 
 // The control bytes, packed in base 4: 4161 is 4096 and 64 and 1, so that the product has each three side by side.
@@ -155,11 +113,12 @@ pub fn gate_of(w: u64) -> Gate
     }
 }
 
-// 1 in each of six bytes that isn't 0.
-fn marked(x: u64) -> u64
-    requires { ⌜ ((k : ℕ) → k < 6 → byte k x < 4) ⌝ }
-    ensures { λ r. ⌜ r ≡ pack 256 (λ k. cond (eqb (byte k x) 0) 0 1) 6 ⌝ }
+// 1 for each line whose control byte is another than its byte of d: of each two bits that differ, one is set.
+pub fn mark_others(w: u64, d: u64) -> u64
+    requires { ⌜ Low w × ((k : ℕ) → k < 6 → byte k d < 4) ⌝ }
+    ensures { λ r. ⌜ r ≡ otherMarks w d ⌝ }
 {
+    let x = d ^ w / 65536;
     (x | x / 2) & 0x010101010101
 }
 
@@ -168,86 +127,7 @@ pub fn mark_controls(w: u64) -> u64
     requires { ⌜ Low w ⌝ }
     ensures { λ r. ⌜ r ≡ controlMarks w ⌝ }
 {
-    marked(w / 65536 ^ 0x030303030303)
-}
-
-// 1 for each line whose control byte is another than its byte of d.
-pub fn mark_others(w: u64, d: u64) -> u64
-    requires { ⌜ Low w × ((k : ℕ) → k < 6 → byte k d < 4) ⌝ }
-    ensures { λ r. ⌜ r ≡ otherMarks w d ⌝ }
-{
-    marked(d ^ w / 65536)
-}
-
-// The digits of a pattern, a byte each.
-pub fn spread(p: u16) -> u64
-    ensures { λ r. ⌜ Spread p r ⌝ }
-{
-    let q = p as u64;
-    q % 3
-        + 256 * (q / 3 % 3)
-        + 65536 * (q / 9 % 3)
-        + 16777216 * (q / 27 % 3)
-        + 4294967296 * (q / 81 % 3)
-        + 1099511627776 * (q / 243 % 3)
-}
-
-// The pattern of six digits.
-pub fn gather(d: u64) -> u16
-    requires { ⌜ Held d ⌝ }
-    ensures { λ r. ⌜ r ≡ pack 3 (λ k. byte k d) 6 ⌝ }
-{
-    (d % 256
-        + 3 * (d / 256 % 256)
-        + 9 * (d / 65536 % 256)
-        + 27 * (d / 16777216 % 256)
-        + 81 * (d / 4294967296 % 256)
-        + 243 * (d / 1099511627776 % 256)) as u16
-}
-
-// Every control line holds its value: no control's line holds another.
-fn fires_in(w: u64, d: u64) -> bool
-    requires { ⌜ Low w × Held d ⌝ }
-    ensures { λ r. ⌜ r ≡ firesIn w d ⌝ }
-{
-    mark_others(w, d) & mark_controls(w) == 0
-}
-
-// Byte k.
-pub fn byte_of(d: u64, k: u64) -> u64
-    requires { ⌜ k ≤ 6 ⌝ }
-    ensures { λ r. ⌜ r ≡ byte k d ⌝ }
-{
-    d / weight(k) % 256
-}
-
-// Six bytes, with byte k replaced.
-fn put_byte(d: u64, k: u64, x: u64) -> u64
-    requires { ⌜ (d < 256 ^ 6) × (k < 6) × (x < 256) ⌝ }
-    ensures { λ r. ⌜ r ≡ put 256 k d x ⌝ }
-{
-    let place = weight(k);
-    d - d / place % 256 * place + x * place
-}
-
-// The lines after the gate.
-pub fn moved(w: u64, d: u64) -> u64
-    requires { ⌜ Low w × (byte 1 w < 6) × Held d ⌝ }
-    ensures { λ r. ⌜ r ≡ movedBy w d ⌝ }
-{
-    if !fires_in(w, d) {
-        return d;
-    }
-    let t = w / 256 % 256;
-    put_byte(d, t, acted((w % 256) as u8, byte_of(d, t)))
-}
-
-// The operator's value at a digit, as wide as the word.
-fn acted(operator: u8, x: u64) -> u64
-    requires { ⌜ x < 3 ⌝ }
-    ensures { λ r. ⌜ (r ≡ act operator x) × (r < 3) ⌝ }
-{
-    super::act_on(operator, x as u16) as u64
+    mark_others(w, 0x030303030303)
 }
 
 // The word of a gate: its controls, packed in base 4, are spread over bytes.

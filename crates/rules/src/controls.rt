@@ -1,42 +1,10 @@
-// The controls of gates, packed in base 4: one of them, one replaced, and two gates' controls compared line by line.
+// Two gates' controls, packed in base 4, compared line by line.
 ghost use mathlib.Core.Path.{_≡_};
 ghost use mathlib.Core.Bool.{cond, not, Bool·beq};
-ghost use Prim.Native.Nat.{_^_, _<_};
 ghost use lib.Dec.{eqb};
 ghost use Rattle.ranges.specs.Ranges.{every, sum, first};
-ghost use Rattle.digits.specs.Digits.{digit, put};
-
-// 4 to the k.
-fn weight(k: usize) -> u16
-    requires { ⌜ k < 6 ⌝ }
-    ensures { λ r. ⌜ r ≡ 4 ^ k ⌝ }
-{
-    match k {
-        0 => 1,
-        1 => 4,
-        2 => 16,
-        3 => 64,
-        4 => 256,
-        _ => 1024,
-    }
-}
-
-// The control on line k.
-pub fn control_on(controls: u16, k: usize) -> u16
-    requires { ⌜ k < 7 ⌝ }
-    ensures { λ r. ⌜ r ≡ digit 4 k controls ⌝ }
-{
-    (controls >> (2 * k)) % 4
-}
-
-// The controls with that on line k replaced by v.
-pub fn with_control(controls: u16, k: usize, v: u16) -> u16
-    requires { ⌜ (controls < 4 ^ 6) × (k < 6) × (v < 4) ⌝ }
-    ensures { λ r. ⌜ r ≡ put 4 k controls v ⌝ }
-{
-    let w = weight(k);
-    controls - control_on(controls, k) * w + v * w
-}
+ghost use Rattle.digits.specs.Digits.{digit};
+use gates::controls::control_on;
 
 // Two lines have a control both, or none.
 fn both_or_none(x: u16, y: u16) -> bool

@@ -140,19 +140,19 @@ pub fn reduce_pair(g: Gate, h: Gate) -> Reduced
     ensures { λ r. ⌜ (r .first ≡ loosened g h) × (r .second ≡ retuned g h) ⌝ }
 {
     let k = super::controls::find_difference(g.controls, h.controls);
-    let s = super::controls::control_on(g.controls, k);
-    let t = super::controls::control_on(h.controls, k);
+    let s = gates::controls::control_on(g.controls, k);
+    let t = gates::controls::control_on(h.controls, k);
     let same = g.operator;
     let back = gates::invert_op(h.operator);
     let first = Gate {
         operator: same,
         target: g.target,
-        controls: super::controls::with_control(g.controls, k, 3),
+        controls: gates::controls::with_control(g.controls, k, 3),
     };
     let second = Gate {
         operator: back,
         target: h.target,
-        controls: super::controls::with_control(h.controls, k, 3 - s - t),
+        controls: gates::controls::with_control(h.controls, k, 3 - s - t),
     };
     Reduced { first, second }
 }

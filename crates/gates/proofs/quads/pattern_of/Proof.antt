@@ -1,8 +1,8 @@
--- `gates::words::spread` meets its contract. Assumes nothing.
-use Rattle.gates.proofs.Marks.{spread-is, spread-pack}
+-- `gates::quads::pattern_of` meets its contract. Assumes nothing.
+use Rattle.gates.proofs.Firing.{quad-back}
 use borrow.Author.Needs.{needs}
-use Rattle.gates.proofs.words.spread.Statement.{statement}
-use Rattle.gates.proofs.words.spread.Tie as tie
+use Rattle.gates.proofs.quads.pattern_of.Statement.{statement}
+use Rattle.gates.proofs.quads.pattern_of.Tie as tie
 
 mul-result : tie.Need-mul-result
 mul-result c = search needs
@@ -35,10 +35,10 @@ add-result-5 : tie.Need-add-result-5
 add-result-5 c = search needs
 
 returns : tie.Need-returns
-returns c = spread-pack _ _ (spread-is _)
+returns c = λ p lt e. quad-back p _ lt e
 
-pub spread-spec : {M : Type 1} → statement M
-spread-spec =
+pub pattern-of-spec : {M : Type 1} → statement M
+pattern-of-spec =
     tie.close
     (tie.spec
     mul-result

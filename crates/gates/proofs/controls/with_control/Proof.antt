@@ -1,13 +1,21 @@
--- `rules::controls::with_control` meets its contract: `put` is what the body computes, and its parts fit. Assumes nothing.
-use mathlib.Core.Path.{_≡_}
-use Prim.Native.Nat.{ℕ, _+_, _-_, _*_, _^_, _≤_, _<_}
+-- `gates::controls::with_control` meets its contract: `put` is what the body computes, and its parts fit. Assumes nothing.
+use mathlib.Core.Path.{_≡_, refl}
+use Prim.Native.Nat.{ℕ, _+_, _-_, _*_, _%_, _^_, _≤_, _<_}
 use native.Mathlib.Nat.{pow-le-pow-right, mul-le-mul}
 use native.Mathlib.Omega.{arith}
+use lib.Dec.{eqb}
+use borrow.Author.Tests.{eqb-true}
+use Rattle.ranges.specs.Ranges.{every}
+use Rattle.ranges.proofs.Tests.{every-below}
 use Rattle.digits.specs.Digits.{digit, put}
 use Rattle.digits.proofs.Digits.{digit-le}
 use borrow.Author.Needs.{needs}
-use Rattle.rules.proofs.controls.with_control.Statement.{statement}
-use Rattle.rules.proofs.controls.with_control.Tie as tie
+use Rattle.gates.proofs.controls.with_control.Statement.{statement}
+use Rattle.gates.proofs.controls.with_control.Tie as tie
+
+weight-is : (k : ℕ) → k < 6 → 1 * 2 ^ (2 * k) % 65536 ≡ 4 ^ k
+unfolding every
+weight-is k lt = eqb-true _ _ (every-below (λ k. eqb (1 * 2 ^ (2 * k) % 65536) (4 ^ k)) 6 refl k lt)
 
 -- what the arithmetic of the body needs, over plain numbers
 record Facts (p k d w x : ℕ) : Type 0 where
@@ -26,11 +34,17 @@ facts p k d w x lk ld ew ex =
     }
 
 module _ (c : tie.After-control-on) where
-  known : Facts (c .before .before .args .controls) (c .before .before .args .k) (c .before .before .args .v) (c .before .weight .result) (c .control-on .result)
-  known = facts _ _ _ _ _ (c .before .before .pre .1) (c .before .before .pre .2) (c .before .weight .ensures) (c .control-on .ensures)
+  known : Facts (c .before .args .controls) (c .before .args .k) (c .before .args .v) (1 * 2 ^ (2 * c .before .args .k) % 65536) (c .control-on .result)
+  known = facts _ _ _ _ _ (c .before .pre .1) (c .before .pre .2) (weight-is _ (c .before .pre .1)) (c .control-on .ensures)
 
-weight-requires : tie.Need-weight-requires
-weight-requires c κs = search needs
+mul-weight : tie.Need-mul-weight
+mul-weight c = search needs
+
+cast-weight : tie.Need-cast-weight
+cast-weight c = search needs
+
+shl-weight : tie.Need-shl-weight
+shl-weight c = search needs
 
 control-on-requires : tie.Need-control-on-requires
 control-on-requires c κs = search needs
@@ -54,7 +68,9 @@ pub with-control-spec : {M : Type 1} → statement M
 with-control-spec =
     tie.close
     (tie.spec
-    weight-requires
+    mul-weight
+    cast-weight
+    shl-weight
     control-on-requires
     mul-result
     sub-result

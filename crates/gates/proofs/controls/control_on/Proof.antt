@@ -1,12 +1,12 @@
--- `rules::controls::control_on` meets its contract: two bits to a line are a digit in base 4. Assumes nothing.
+-- `gates::controls::control_on` meets its contract: two bits to a line are a digit in base 4. Assumes nothing.
 use mathlib.Core.Path.{_≡_, refl}
 use Prim.Native.Nat.{ℕ, zero, suc, _*_, _^_}
 use native.Mathlib.Nat.{pow-suc}
 use native.Mathlib.Omega.{arith}
 use Rattle.digits.specs.Digits.{digit}
 use borrow.Author.Needs.{needs}
-use Rattle.rules.proofs.controls.control_on.Statement.{statement}
-use Rattle.rules.proofs.controls.control_on.Tie as tie
+use Rattle.gates.proofs.controls.control_on.Statement.{statement}
+use Rattle.gates.proofs.controls.control_on.Tie as tie
 
 two-bits : (k : ℕ) → 2 ^ (2 * k) ≡ 4 ^ k
 two-bits zero = refl
