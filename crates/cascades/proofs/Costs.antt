@@ -9,15 +9,15 @@ use native.Mathlib.Nat.{add-assoc, add-zero}
 use native.Mathlib.Omega.{arith}
 use lib.Dec.{eqb}
 use Rattle.ranges.proofs.Counts.{here-or-later}
-use Rattle.ranges.specs.Ranges.{sum, span}
+use Rattle.ranges.specs.Ranges.{span}
 use Rattle.ranges.specs.Lists.{Each, total}
-use Rattle.ranges.proofs.Sums.{sum-le, sum-le-but, sum-ext}
+use Rattle.ranges.proofs.Sums.{sum-le-but, sum-ext}
 use Rattle.ranges.proofs.Spans.{span-more, span-ends}
 use Rattle.ranges.proofs.Lists.{each-imp, total-append, total-le}
 use Rattle.gates.specs.declared.Gate.{Gate}
 use Rattle.gates.specs.Gates.{control, IsGate}
 use Rattle.cascades.specs.Cascades.{Cascade}
-use Rattle.cascades.specs.Prices.{base, controlCount, others, gatePrice, cascadePrice}
+use Rattle.cascades.specs.Prices.{base, controlCount, others, gatePrice, withControls, cascadePrice}
 use Rattle.cascades.proofs.Cascades.{gateOf}
 
 pub base-small : (k : ℕ) → k < 2 → base k ≡ 1
@@ -40,7 +40,7 @@ base-more (suc (suc (suc k))) lt =
     rw e
 
 -- more controls cost no less
-pub base-rises : (k : ℕ) → base k ≤ base (suc k)
+base-rises : (k : ℕ) → base k ≤ base (suc k)
 unfolding base
 base-rises zero = omega arith
 base-rises (suc zero) = omega arith
@@ -65,16 +65,9 @@ count-others g = sum-ext _ _ 0 6 (λ k le lt. one (eqb (control g k) 3))
     one true = refl
     one false = refl
 
-pub one-at-most : (b : Bool) → cond b 0 1 ≤ 1
+one-at-most : (b : Bool) → cond b 0 1 ≤ 1
 one-at-most true = omega arith
 one-at-most false = omega arith
-
-pub others-few : (v : ℕ) (g : Gate) → others v g ≤ 6
-unfolding others
-others-few v g = sum-le (λ k. cond (eqb (control g k) 3 || eqb (control g k) v) 0 1) 1 0 6 (λ k. one-at-most (eqb (control g k) 3 || eqb (control g k) v))
-
-pub count-few : (g : Gate) → controlCount g ≤ 6
-count-few g = rw (← count-others g) (others-few 3 g)
 
 -- the target of a gate has no control, so it has five at most
 pub others-le : (n v : ℕ) (g : Gate) → n ≤ 6 → IsGate n g → others v g ≤ 5
@@ -83,6 +76,11 @@ others-le n v g six ok =
     let none : cond {A = ℕ} (eqb (control g (g .target)) 3 || eqb (control g (g .target)) v) 0 1 ≡ 0 = rw (ok .own) in
     let s = sum-le-but (λ k. cond (eqb (control g k) 3 || eqb (control g k) v) 0 1) 1 0 6 (g .target) (λ k. one-at-most (eqb (control g k) 3 || eqb (control g k) v)) (omega arith) (omega (arith, ok .on-line)) none in
     omega arith
+
+-- the price does not depend on operator and target
+pub price-of : (v : ℕ) (g : Gate) → gatePrice v (withControls (g .controls)) ≡ gatePrice v g
+unfolding gatePrice controlCount others
+price-of v g = refl
 
 -- a cascade's price is the sum over its parts
 pub price-append : (v : ℕ) (gs hs : List Gate) → cascadePrice v (gs ++ hs) ≡ cascadePrice v gs + cascadePrice v hs

@@ -5,5 +5,3 @@ pub mod Answers
 pub mod Stored
 pub mod Sounds
 pub mod Readings
-pub mod Tallies
-pub mod Faults

@@ -1,13 +1,12 @@
 -- What a call behind 1, 6 and 7 says of the bytes is what checking says: where it accepts they are a cascade, where it refuses so does every other call.
 -- `price-whole` and `price-refused` say it of pricing, for those who price first. Assumes nothing.
 use mathlib.Core.Path.{_≡_, refl, sym, ap, _∙_}
-use mathlib.Core.Bool.{true, false}
 use mathlib.Core.List.{List, [], _∷_}
 use Prim.Native.Nat.{ℕ, _≤_}
 use native.Mathlib.Omega.{arith}
 use lib.Dec.{ltb}
 use borrow.Author.Tests.{le-ltb}
-use Rattle.card.specs.Card.{Answer, Answer.accepted, Answer.refused, refusing, onLines}
+use Rattle.card.specs.Card.{Answer, Answer.accepted, Answer.refused, onLines}
 use Rattle.card.proofs.Cards.{refusing-no}
 use Rattle.cascades.specs.Cascades.{records, gatesOf, Whole}
 use Rattle.cascades.specs.Prices.{cascadePrice}

@@ -1,6 +1,6 @@
 -- Gates as bytes: how long their records are, one turn of a loop that writes them, and that what was written is read back. Assumes nothing.
 use mathlib.Core.Path.{_≡_, refl, sym, ap, ap₂, _∙_}
-use mathlib.Core.List.{List, [], _∷_, _++_, append-assoc}
+use mathlib.Core.List.{List, [], _∷_}
 use Prim.Native.Nat.{ℕ, _+_, _-_, _*_, _/_, _≤_, _<_}
 use native.Mathlib.Nat.{zero-add, add-zero}
 use native.Mathlib.Omega.{arith}
@@ -44,11 +44,6 @@ pub length-bytes : (gs : List Gate) → length (bytesOf gs) ≡ 8 * length gs
 unfolding bytesOf
 length-bytes [] = refl
 length-bytes (g ∷ gs) = length-append (recordOf g) (bytesOf gs) ∙ rw (length-record g, length-bytes gs) (omega arith)
-
-pub bytes-append : (gs hs : List Gate) → bytesOf (gs ++ hs) ≡ bytesOf gs ++ bytesOf hs
-unfolding bytesOf
-bytes-append [] hs = refl
-bytes-append (g ∷ gs) hs = rw (bytes-append gs hs, append-assoc)
 
 -- one turn of a loop that writes the records of f 0, f 1, .. from the start of a room on, and its end
 pub stored-more : (f : ℕ → Gate) (room : List ℕ) (m i : ℕ) → i < m

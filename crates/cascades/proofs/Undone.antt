@@ -1,11 +1,9 @@
 -- The reversed list of the gates' inverses undoes the list, from either side, and is a cascade itself. Assumes nothing.
-use mathlib.Core.Path.{_≡_, refl, sym, ap, _∙_}
-use mathlib.Core.List.{List, [], _∷_, _++_, map, reverse, reverse-cons, reverse-append}
-use Prim.Native.Nat.{ℕ, zero, suc, _+_, _-_, _*_, _≤_, _<_}
-use native.Mathlib.Nat.{zero-add}
+use mathlib.Core.Path.{_≡_, refl, _∙_}
+use mathlib.Core.List.{List, [], _∷_, _++_, map, reverse-cons}
+use Prim.Native.Nat.{ℕ, _+_, _-_}
 use native.Mathlib.Omega.{arith}
 use lib.ListN.{length, length-reverse, length-map}
-use Rattle.ranges.specs.Ranges.{span}
 use Rattle.ranges.specs.Lists.{Each, through}
 use Rattle.ranges.proofs.Lists.{through-nil, through-cons, each-map, each-reverse}
 use Rattle.gates.specs.declared.Gate.{Gate}

@@ -1,11 +1,10 @@
 -- The price of a gate and of a cascade, at a global control value v.
-use Prim.Native.Nat.{ℕ, zero, suc, _+_, _*_, _/_, _%_}
+use Prim.Native.Nat.{ℕ, zero, suc, _+_, _*_}
 use mathlib.Core.Bool.{cond, _||_}
 use mathlib.Core.List.{List}
 use lib.Dec.{eqb}
 use Rattle.ranges.specs.Ranges.{sum}
 use Rattle.ranges.specs.Lists.{total}
-use Rattle.digits.specs.Digits.{digit}
 use Rattle.gates.specs.declared.Gate.{Gate}
 use Rattle.gates.specs.Gates.{control}
 
@@ -28,20 +27,9 @@ others v g = sum (λ k. cond (eqb (control g k) 3 || eqb (control g k) v) 0 1) 0
 unfoldable pub gatePrice : ℕ → Gate → ℕ
 gatePrice v g = base (controlCount g) + 2 * others v g
 
--- the same by the gate's packed controls
-unfoldable pub controlsPrice : ℕ → ℕ → ℕ
-controlsPrice v c = gatePrice v (record { operator = 0; target = 0; controls = c })
-
--- and by the number j of its controls and 8 times its others
-unfoldable pub countedPrice : ℕ → ℕ
-countedPrice j = base (j % 8) + 2 * (j / 8)
-
--- what a control byte adds to that number, and three packed ones
-unfoldable pub tally : ℕ → ℕ → ℕ
-tally v x = cond (eqb x 3) 0 (cond (eqb x v) 1 9)
-
-unfoldable pub tallied : ℕ → ℕ → ℕ
-tallied v c = sum (λ k. tally v (digit 4 k c)) 0 3
+-- a gate with the packed controls c: its operator and target do not matter to its price
+abbrev pub withControls : ℕ → Gate
+withControls c = record { operator = 0; target = 0; controls = c }
 
 -- a cascade costs the sum
 unfoldable pub cascadePrice : ℕ → List Gate → ℕ

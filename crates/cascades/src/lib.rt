@@ -1,15 +1,13 @@
 // Cascades of gate records: checked, run on a pattern, inverted, and priced.
 ghost use mathlib.Core.Path.{_≡_};
-ghost use Prim.Native.Nat.{_≤_, _<_, _^_};
+ghost use Prim.Native.Nat.{_<_, _^_};
 ghost use mathlib.Core.Bool.{true};
 ghost use mathlib.Core.List.{_∷_, []};
 ghost use lib.ListN.{length};
 ghost use Rattle.card.specs.Card.{linesOk, Answer.accepted};
-ghost use Rattle.gates.specs.Words.{asked};
 ghost use Rattle.cascades.specs.Cascades.{gatesOf, ran};
-ghost use Rattle.ranges.specs.Ranges.{span};
-ghost use Rattle.cascades.specs.Prices.{countedPrice, tallied, cascadePrice};
-ghost use Rattle.cascades.specs.Answers.{countedAs, ranAs, pricedAs, lengthOk, sound, checkAnswer, runAnswer, invertAnswer, invertRoom, priceAnswer};
+ghost use Rattle.cascades.specs.Prices.{cascadePrice};
+ghost use Rattle.cascades.specs.Answers.{countedAs, ranAs, pricedAs, sound, checkAnswer, runAnswer, invertAnswer, invertRoom, priceAnswer};
 
 pub mod lengths;
 mod prices;
@@ -63,9 +61,9 @@ pub fn check_cascade(lines: u8, cascade: &[u8]) -> Counted
     Counted::Gates(count)
 }
 
-// The cascade on a pattern of so many lines, with refusals 6 and 7 on the way: one pass, by the row of what is asked of records.
-fn run_by(lines: u8, row: &[u64], cascade: &[u8], pattern: u16) -> Ran
-    requires { ⌜ (linesOk lines ≡ true) × (now row ≡ span (asked lines) 0 64) × (pattern < 3 ^ lines) ⌝ }
+// The cascade on a pattern of so many lines, with refusals 6 and 7 on the way.
+fn run_on(lines: u8, cascade: &[u8], pattern: u16) -> Ran
+    requires { ⌜ (linesOk lines ≡ true) × (pattern < 3 ^ lines) ⌝ }
     ensures { λ r. ⌜ ranAs r ≡ sound lines (now (cascade .entry)) (accepted (ran (gatesOf (now (cascade .entry))) pattern ∷ [])) ⌝ }
 {
     if !lengths::length_ok(cascade.len()) {
@@ -75,34 +73,24 @@ fn run_by(lines: u8, row: &[u64], cascade: &[u8], pattern: u16) -> Ran
         };
     }
     let m = cascade.len() / 8;
-    let mut d = gates::words::spread(pattern);
+    let mut q = gates::quads::quad_of(pattern);
     let mut i: usize = 0;
     while i < m {
         let Record::Gate {
-            operator: _,
-            target: _,
-            controls: _,
-        } = gates::decode_by(lines, row, cascade, 8 * i)
+            operator,
+            target,
+            controls,
+        } = gates::decode(lines, cascade, 8 * i)
         else {
             return Ran::Refused {
                 number: 7,
                 place: i,
             };
         };
-        d = gates::words::moved(gates::words::word_at(cascade, 8 * i), d);
+        q = gates::quads::apply(operator, target, controls, q);
         i = i + 1;
     }
-    Ran::Pattern(gates::words::gather(d))
-}
-
-// The same, with a row of its own.
-fn run_on(lines: u8, cascade: &[u8], pattern: u16) -> Ran
-    requires { ⌜ (linesOk lines ≡ true) × (pattern < 3 ^ lines) ⌝ }
-    ensures { λ r. ⌜ ranAs r ≡ sound lines (now (cascade .entry)) (accepted (ran (gatesOf (now (cascade .entry))) pattern ∷ [])) ⌝ }
-{
-    let mut row = [0u64; 64];
-    gates::words::write_asked(lines, &mut row);
-    run_by(lines, &row, cascade, pattern)
+    Ran::Pattern(gates::quads::pattern_of(q))
 }
 
 // The cascade on a pattern: refusals 1, 6, 7, 8.
@@ -147,20 +135,17 @@ pub fn invert(lines: u8, cascade: &[u8], room: &mut [u8]) -> Counted
     }
 }
 
-// The sum of the gates' prices, with refusal 7 on the way: one pass, by rows of what is asked of records, what controls add, and prices. The length was
-// tested before the rows were made.
-fn price_by(
-    lines: u8,
-    value: u8,
-    cascade: &[u8],
-    row: &[u64],
-    tallies: &[u8],
-    costs: &[u32],
-) -> Priced
-    requires { ⌜ (linesOk lines ≡ true) × (value ≤ 2) × (lengthOk (length (now cascade)) ≡ true) ⌝ }
-    requires { ⌜ (now row ≡ span (asked lines) 0 64) × (now tallies ≡ span (tallied value) 0 64) × (now costs ≡ span countedPrice 0 64) ⌝ }
+// The sum of the gates' prices, with refusals 6 and 7 on the way.
+fn price_on(lines: u8, value: u8, cascade: &[u8]) -> Priced
+    requires { ⌜ linesOk lines ≡ true ⌝ }
     ensures { λ r. ⌜ pricedAs r ≡ sound lines (now (cascade .entry)) (accepted (cascadePrice value (gatesOf (now (cascade .entry))) ∷ [])) ⌝ }
 {
+    if !lengths::length_ok(cascade.len()) {
+        return Priced::Refused {
+            number: 6,
+            place: 0,
+        };
+    }
     let m = cascade.len() / 8;
     let mut cost: u32 = 0;
     let mut i: usize = 0;
@@ -169,31 +154,17 @@ fn price_by(
             operator: _,
             target: _,
             controls,
-        } = gates::decode_by(lines, row, cascade, 8 * i)
+        } = gates::decode(lines, cascade, 8 * i)
         else {
             return Priced::Refused {
                 number: 7,
                 place: i,
             };
         };
-        cost = cost + prices::price_controls(value, controls, tallies, costs);
+        cost = cost + prices::price_gate(value, controls);
         i = i + 1;
     }
     Priced::Cost(cost)
-}
-
-// The same, with rows of its own.
-fn price_on(lines: u8, value: u8, cascade: &[u8]) -> Priced
-    requires { ⌜ (linesOk lines ≡ true) × (value ≤ 2) × (lengthOk (length (now cascade)) ≡ true) ⌝ }
-    ensures { λ r. ⌜ pricedAs r ≡ sound lines (now (cascade .entry)) (accepted (cascadePrice value (gatesOf (now (cascade .entry))) ∷ [])) ⌝ }
-{
-    let mut row = [0u64; 64];
-    gates::words::write_asked(lines, &mut row);
-    let mut tallies = [0u8; 64];
-    prices::write_tallies(value, &mut tallies);
-    let mut costs = [0u32; 64];
-    prices::write_prices(&mut costs);
-    price_by(lines, value, cascade, &row, &tallies, &costs)
 }
 
 // What the cascade costs at a global control value: refusals 1, 10, 6, 7.
@@ -209,12 +180,6 @@ pub fn price(lines: u8, value: u8, cascade: &[u8]) -> Priced
     if 2 < value {
         return Priced::Refused {
             number: 10,
-            place: 0,
-        };
-    }
-    if !lengths::length_ok(cascade.len()) {
-        return Priced::Refused {
-            number: 6,
             place: 0,
         };
     }

@@ -1,9 +1,8 @@
 -- `cascades::invert` meets its contract: each return is a case of `invertAnswer`. Assumes nothing.
-use mathlib.Core.Path.{_≡_, refl, sym, ap, _∙_}
-use mathlib.Core.List.{List, [], _∷_}
-use Prim.Native.Nat.{ℕ, _*_, _/_, _≤_, _<_}
+use mathlib.Core.Path.{_≡_, sym, ap, _∙_}
+use mathlib.Core.List.{List}
+use Prim.Native.Nat.{ℕ, _*_, _/_, _≤_}
 use lib.ListN.{length}
-use lib.Seq.{length-sets}
 use borrow.Author.Tests.{lt-ltb, le-ltb}
 use native.Mathlib.Omega.{arith}
 use Rattle.card.proofs.Cards.{refusing-yes, refusing-no, refused-both, accepted-both, sets-laid}

@@ -1,7 +1,7 @@
 -- `cascades::run` meets its contract: each return is a case of `runAnswer`. Assumes nothing.
 use mathlib.Core.Path.{_≡_, sym, ap, _∙_}
 use mathlib.Core.Bool.{true}
-use Prim.Native.Nat.{_≤_, _<_, _^_}
+use Prim.Native.Nat.{_<_, _^_}
 use borrow.Author.Tests.{not-true, not-false, le-leb, lt-leb}
 use Rattle.card.specs.Card.{linesOk}
 use Rattle.card.proofs.Cards.{no-lines, good-lines, lines-are, refusing-yes, refusing-no}
