@@ -1,17 +1,14 @@
--- The reader that keeps hold of a file: what it is made of is what opening gives, and what its first turn hands out. `given-known`: the number and the
--- values of what is handed out tell it. Assumes nothing.
+-- The reader that keeps hold of a file: what it is made of is what opening gives. Assumes nothing.
 use mathlib.Core.Path.{_≡_, refl, sym, ap, _∙_}
 use mathlib.Core.List.{List, [], _∷_}
 use Prim.Native.Nat.{ℕ}
 use native.Mathlib.Omega.{arith}
 use denote.Ref.{RefT, ptr, now}
-use Rattle.card.specs.Card.{Answer, Answer.accepted, Answer.refused, linesOk}
+use Rattle.card.specs.Card.{Answer.accepted, Answer.refused}
 use Rattle.card.proofs.Cards.{lines-are}
-use Rattle.files.specs.declared.Given.{Given}
-use Rattle.files.specs.declared.Reader.{Reader}
 use Rattle.files.specs.declared.held.Bounds.{Bounds}
 use Rattle.files.specs.Files.{trailerAt, linesIn, startOf}
-use Rattle.files.specs.Readers.{givenAs, openingAnswer, givenAt, turnAt, turnOf, Opened, boundsOf, HeldPart, firstGiven}
+use Rattle.files.specs.Readers.{openingAnswer, Opened, boundsOf, HeldPart}
 use Rattle.files.proofs.Answers.{opening-says}
 
 -- the numbers of an answer
@@ -40,34 +37,3 @@ module _ (f p : RefT (List ℕ)) (b : Bounds) (numbers : b ≡ boundsOf (opening
 
   pub reader-opened : Opened f (record { file = p; end = b .end; at = b .at; lines = b .lines })
   reader-opened = record { found = numbers-found; none = numbers-none }
-
--- no two of what a reader can hand out have the same number and values
-pub given-known : (g h : Given) → givenAs g ≡ givenAs h → g ≡ h
-given-known (Given.Gate o t c) (Given.Gate o′ t′ c′) e = cc
-given-known Given.End Given.End e = refl
-given-known (Given.Refused k p) (Given.Refused k′ p′) e = cc
-given-known (Given.Gate o t c) Given.End e = let z : _≡_ {A = ℕ} 0 1 = cc in absurd (omega arith)
-given-known (Given.Gate o t c) (Given.Refused k p) e = let z : _≡_ {A = ℕ} 0 1 = cc in absurd (omega arith)
-given-known Given.End (Given.Gate o t c) e = let z : _≡_ {A = ℕ} 0 1 = cc in absurd (omega arith)
-given-known Given.End (Given.Refused k p) e = let z : _≡_ {A = ℕ} 0 1 = cc in absurd (omega arith)
-given-known (Given.Refused k p) (Given.Gate o t c) e = let z : _≡_ {A = ℕ} 0 1 = cc in absurd (omega arith)
-given-known (Given.Refused k p) Given.End e = let z : _≡_ {A = ℕ} 0 1 = cc in absurd (omega arith)
-
--- a reader without lines hands out refusal 1
-no-lines : (f : List ℕ) (at end : ℕ) → givenAt f 0 at end ≡ Given.Refused 1 0
-unfolding givenAt linesOk
-no-lines f at end = refl
-
--- the first turn of the reader that opening gives
-pub first-turn : (f : RefT (List ℕ)) (r : Reader) → Opened f r → turnOf r .given ≡ firstGiven (now f)
-unfolding turnAt firstGiven
-first-turn f r o = go (openingAnswer (now f)) refl
-  where
-    go : (a : Answer) → openingAnswer (now f) ≡ a → givenAt (now (r .file)) (r .lines) (r .at) (r .end) ≡ givenAt (now f) (boundsOf (openingAnswer (now f)) .lines) (boundsOf (openingAnswer (now f)) .at) (boundsOf (openingAnswer (now f)) .end)
-    go (accepted vs) e =
-        let h = o .found vs e in
-        rw (e, ← h .1, bounds-accepted (r .lines) (r .at) (r .end), h .0)
-    go (refused k p) e =
-        let h = o .none k p e in
-        let lines : r .lines ≡ 0 = cc (h .2) in
-        rw (e, bounds-refused k p, lines, no-lines (now (r .file)) (r .at) (r .end)) (sym (no-lines (now f) 0 0))

@@ -83,7 +83,3 @@ boundsOf a = record { end = getD (values a) 2 0; at = getD (values a) 1 0; lines
 pub record HeldPart (n : ℕ) (f r : RefT (List ℕ)) : Type 0 where
   pub itself : (n ≡ 0 → ⊥) → r ≡ f
   pub none : n ≡ 0 → (ptr r ≡ ptr f) × (now r ≡ [])
-
--- what its first turn hands out: without lines, where opening refused, that is refusal 1
-unfoldable pub firstGiven : List ℕ → Given
-firstGiven f = let b = boundsOf (openingAnswer f) in givenAt f (b .lines) (b .at) (b .end)

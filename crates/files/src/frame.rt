@@ -2,7 +2,6 @@
 ghost use mathlib.Core.Path.{_≡_};
 ghost use mathlib.Core.List.{_∷_, []};
 ghost use Prim.Native.Nat.{_+_, _^_, _≤_, _<_};
-ghost use lib.Dec.{leb};
 ghost use lib.ListN.{length};
 ghost use Rattle.card.specs.Card.{onLines, Answer.accepted};
 ghost use Rattle.cascades.specs.Answers.{sound};
@@ -65,10 +64,6 @@ pub fn gates_between(lines: u8, records: &[u8], at: usize, end: usize) -> Extent
             place: 0,
         };
     }
-    // As a rule each of many is a gate; else the first that is none is looked for.
-    if cascades::scan::many_gates(lines, records) {
-        return Extent::Frame { lines, at, end };
-    }
     let count = records.len() / 8;
     let mut i: usize = 0;
     while i < count {
@@ -88,19 +83,9 @@ pub fn gates_between(lines: u8, records: &[u8], at: usize, end: usize) -> Extent
     Extent::Frame { lines, at, end }
 }
 
-// The 8 bytes from a place on end at an offset or before it. The sum is not made: it might wrap around.
-fn ends_by(at: usize, end: usize) -> bool
-    ensures { λ r. ⌜ r ≡ leb (at + 8) end ⌝ }
-{
-    if end < 8 {
-        return false;
-    }
-    at <= end - 8
-}
-
 // A whole record stands from a place on before an offset and the file's end.
 pub fn record_stands(file: &[u8], at: usize, end: usize) -> bool
     ensures { λ r. ⌜ r ≡ recordStands (now (file .entry)) at end ⌝ }
 {
-    ends_by(at, end) && ends_by(at, file.len())
+    gates::ends_by(at, end) && gates::ends_by(at, file.len())
 }

@@ -3,7 +3,7 @@ ghost use mathlib.Core.Path.{_≡_};
 ghost use lib.ListN.{length};
 ghost use denote.Ref.{now};
 ghost use Rattle.files.specs.Files.{writtenAs, readAs, writeAnswer, writeRoom, readAnswer, readRecords, readNote};
-ghost use Rattle.files.specs.Readers.{openingAs, givenAs, openingAnswer, turnAt, turnOf, movedTo, Opened, firstGiven};
+ghost use Rattle.files.specs.Readers.{openingAs, givenAs, openingAnswer, turnAt, turnOf, movedTo, Opened};
 
 mod frame;
 mod held;
@@ -197,12 +197,4 @@ pub fn next<'s, 'a>(r: &'s mut Reader<'a>) -> Given
     let t = turn_at(r.file, r.lines, r.at, r.end);
     r.at = t.at;
     t.given
-}
-
-// The first gate of a file, by a reader of its own: its contract speaks of no reader, so its callers need no walk.
-pub fn first_gate(file: &[u8]) -> Given
-    ensures { λ g. ⌜ givenAs g ≡ givenAs (firstGiven (now (file .entry))) ⌝ }
-{
-    let mut r = open(file);
-    next(&mut r)
 }

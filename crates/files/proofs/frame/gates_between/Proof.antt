@@ -4,13 +4,12 @@ use mathlib.Core.Bool.{true}
 use Prim.Native.Nat.{_-_}
 use lib.ListN.{length}
 use borrow.Author.Tests.{not-true, not-false}
-use native.Mathlib.Omega.{arith}
 use borrow.Author.Needs.{needs}
 use Rattle.card.specs.Card.{linesOk}
 use Rattle.card.proofs.Cards.{no-lines, good-lines}
 use Rattle.gates.proofs.Records.{gives, gives-no}
 use Rattle.cascades.specs.Answers.{lengthOk}
-use Rattle.cascades.proofs.Answers.{Passing, passing-start, passing-next, sound-length, sound-bad, sound-good, sound-none}
+use Rattle.cascades.proofs.Answers.{Passing, passing-start, passing-next, sound-length, sound-bad, sound-good}
 use Rattle.files.proofs.frame.gates_between.Statement.{statement}
 use Rattle.files.proofs.frame.gates_between.Tie as tie
 
@@ -40,14 +39,6 @@ length-ok-requires c κs = search needs
 returns-2 : tie.Need-returns-2 Inv-loop μ-loop
 returns-2 c = sym (good-lines _ _ (six (c .before .before)) ∙ sound-length _ _ _ (sym (c .before .length-ok .ensures) ∙ not-true _ (c .if2 .taken)))
 
-many-gates-requires : tie.Need-many-gates-requires Inv-loop μ-loop
-many-gates-requires c κs = six (c .before .before)
-
-returns-3 : tie.Need-returns-3 Inv-loop μ-loop
-returns-3 c =
-    let e = c .before .before in
-    sym (good-lines _ _ (six (e .before .before)) ∙ sound-none _ _ _ (whole e) (omega (arith, c .before .many-gates .ensures (c .if3 .taken))))
-
 loop-holds : tie.Need-loop-holds Inv-loop μ-loop
 loop-holds c = passing-start _ _ _
 
@@ -63,10 +54,10 @@ enum-told c = search needs
 enum-told-2 : tie.Need-enum-told-2 Inv-loop μ-loop
 enum-told-2 c = search needs
 
-returns-4 : tie.Need-returns-4 Inv-loop μ-loop
-returns-4 c =
+returns-3 : tie.Need-returns-3 Inv-loop μ-loop
+returns-3 c =
     let d = c .before .before in
-    let e = d .before .before .before .before .before in
+    let e = d .before .before .before in
     sym (good-lines _ _ (six (e .before .before))
     ∙ sound-bad _ _ _ _ (whole e) (d .before .loop-test .taken) (gives-no _ _ _ _ _ (six (e .before .before)) (sym (d .decode .ensures) ∙ c .enum-told2 .given .1)) (d .before .before .loop .inv))
 
@@ -81,9 +72,9 @@ loop-again c =
     let d = c .before .before in
     passing-next _ _ _ _ (d .before .loop-test .taken) (gives _ _ _ _ _ _ (sym (d .decode .ensures) ∙ c .enum-told .given .1) .is) (d .before .before .loop .inv)
 
-returns-5 : tie.Need-returns-5 Inv-loop μ-loop
-returns-5 c =
-    let e = c .before .before .before .before in
+returns-4 : tie.Need-returns-4 Inv-loop μ-loop
+returns-4 c =
+    let e = c .before .before in
     sym (good-lines _ _ (six (e .before .before)) ∙ sound-good _ _ _ _ (whole e) (c .loop-test .left) (c .before .loop .inv))
 
 pub gates-between-spec : {M : Type 1} → statement M
@@ -96,15 +87,13 @@ gates-between-spec =
     returns
     length-ok-requires
     returns-2
-    many-gates-requires
-    returns-3
     loop-holds
     mul-decode
     decode-requires
     enum-told
     enum-told-2
-    returns-4
+    returns-3
     add-i
     loop-less
     loop-again
-    returns-5)
+    returns-4)
