@@ -1,11 +1,11 @@
 -- Numbers in decimal: how many digits there are, one turn of a loop that counts them, and one of a loop that stores them from the last down.
--- A number below 10 is one byte. It rests on the laws of `first` and of digits. Assumes nothing.
+-- It rests on the laws of `first` and of digits. Assumes nothing.
 use mathlib.Core.Path.{_≡_, refl, sym, ap, _∙_}
 use mathlib.Core.Bool.{Bool, true, false}
-use mathlib.Core.Logic.{_⊎_, ⊎-elim}
+use mathlib.Core.Logic.{⊎-elim}
 use mathlib.Core.List.{List, [], _∷_, _++_}
 use Prim.Native.Nat.{ℕ, suc, _+_, _-_, _/_, _%_, _^_, _≤_, _<_}
-use native.Mathlib.Nat.{zero-add, div-eq-of-lt, div-lt-iff-lt-mul, one-le-pow, mod-eq-of-lt}
+use native.Mathlib.Nat.{zero-add, div-eq-of-lt, div-lt-iff-lt-mul, one-le-pow}
 use native.Mathlib.Numerals.{add-one}
 use native.Mathlib.Omega.{arith}
 use lib.Dec.{ltb}
@@ -18,7 +18,7 @@ use Rattle.ranges.proofs.Searches.{Found, found, first-more, first-hit, first-e
 use Rattle.ranges.proofs.Spans.{length-span, span-snoc}
 use Rattle.ranges.proofs.Stores.{sets-before}
 use Rattle.digits.specs.Digits.{digit}
-use Rattle.digits.proofs.Digits.{digit-zero, shift-digit, shift-next}
+use Rattle.digits.proofs.Digits.{shift-digit, shift-next}
 use Rattle.listings.specs.Texts.{width, decimal}
 
 -- ---- how many digits
@@ -91,11 +91,6 @@ length-decimal x = length-span (byteOf x (width x)) 0 (width x)
 
 pub width-small : (x : ℕ) → x < 10 → width x ≡ 1
 width-small x lt = omega (arith, width-some x, width-le x 1 (omega arith) lt)
-
--- a number below 10 is its one digit
-pub decimal-small : (x : ℕ) → x < 10 → decimal x ≡ (48 + x) ∷ []
-unfolding decimal span
-decimal-small x lt = rw (width-small x lt, digit-zero, mod-eq-of-lt lt)
 
 -- one turn of the loop that stores: the bytes behind place j are stored, and now the one there
 pub byte-stored : (x w : ℕ) (room : List ℕ) (at rest j : ℕ) → rest ≡ x / 10 ^ (w - (j + 1))

@@ -2,4 +2,4 @@ pub mod Decimals
 pub mod Writes
 pub mod Layouts
 pub mod Lengths
-pub mod Spills
+pub mod Lines

@@ -3,7 +3,6 @@ use mathlib.Core.Path.{_≡_, refl, ap, _∙_}
 use mathlib.Core.List.{List, [], _∷_, _++_}
 use Prim.Native.Nat.{ℕ, _+_, _≤_}
 use native.Mathlib.Nat.{add-zero}
-use native.Mathlib.Numerals.{add-one, add-two}
 use native.Mathlib.Omega.{arith}
 use lib.ListN.{length, set, length-append}
 use lib.Seq.{length-sets}
@@ -16,12 +15,6 @@ written-long {room} {text} {now} {at} w = ap length (w .stored) ∙ length-sets 
 
 pub written-byte : (room : List ℕ) (at v : ℕ) → Written room at (v ∷ []) (set room at v) (at + 1)
 written-byte room at v = record { stored = refl; behind = refl }
-
-pub written-two : (room : List ℕ) (at u v : ℕ) → Written room at (u ∷ v ∷ []) (set (set room at u) (at + 1) v) (at + 2)
-written-two room at u v = record { stored = rw add-one; behind = refl }
-
-pub written-three : (room : List ℕ) (at u v w : ℕ) → Written room at (u ∷ v ∷ w ∷ []) (set (set (set room at u) (at + 1) v) (at + 2) w) (at + 3)
-written-three room at u v w = record { stored = rw (add-one, add-two); behind = refl }
 
 pub writing-start : (room : List ℕ) (at : ℕ) (text : List ℕ) → Writing room at text room at text
 writing-start room at text = record { same = refl; ahead = refl; long = refl }

@@ -3,7 +3,6 @@ use Prim.Native.Nat.{ℕ, _+_, _-_, _^_}
 use Prim.Native.Char.{code}
 use Prim.Native.String.{String}
 use mathlib.Core.Path.{_≡_}
-use mathlib.Core.Bool.{cond}
 use mathlib.Core.List.{List, [], _∷_}
 use lib.Dec.{ltb}
 use lib.ListN.{length}
@@ -28,7 +27,3 @@ decimal x = span (λ i. 48 + digit 10 (width x - (i + 1)) x) 0 (width x)
 pub record Written (room : List ℕ) (at : ℕ) (text now : List ℕ) (next : ℕ) : Type 0 where
   pub stored : now ≡ sets room at text
   pub behind : next ≡ at + length text
-
--- the size of a text that a room of so many bytes has no place for, and 0 if it has
-unfoldable pub missingIn : ℕ → ℕ → ℕ
-missingIn room size = cond (ltb room size) size 0

@@ -25,14 +25,15 @@ pub fn listing(lines: u8, cascade: &[u8], room: &mut [u8]) -> Listed
     match cascades::price(lines, 2, cascade) {
         Priced::Refused { number, place } => Listed::Refused { number, place },
         Priced::Cost(cost) => {
-            let size = sizes::missing(lines, cascade, cost, room.len());
-            if 0 < size {
+            let names = pieces::NAMES;
+            let size = sizes::size_listing(&names, lines, cascade, cost);
+            if room.len() < size {
                 return Listed::Refused {
                     number: 5,
                     place: size,
                 };
             }
-            Listed::Bytes(writing::write_listing(lines, cascade, cost, room))
+            Listed::Bytes(writing::write_listing(&names, lines, cascade, cost, room))
         }
     }
 }

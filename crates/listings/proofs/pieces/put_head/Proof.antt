@@ -1,80 +1,55 @@
--- `listings::pieces::put_head` meets its contract: the word that is stored carries the text. Assumes nothing.
-use Prim.Native.Nat.{ℕ, _+_, _<_}
+-- `listings::pieces::put_head` meets its contract: the name's word, and behind the name the target's. Assumes nothing.
 use native.Mathlib.Omega.{arith}
-use Rattle.listings.specs.Pieces.{headWord}
-use Rattle.listings.proofs.Spills.{heads-long, head-low, head-most, head-stored}
+use Rattle.listings.proofs.Lines.{names-long, name-few, head-laid}
 use borrow.Author.Needs.{needs}
 use Rattle.listings.proofs.pieces.put_head.Statement.{statement}
 use Rattle.listings.proofs.pieces.put_head.Tie as tie
 
-mul-row : tie.Need-mul-row
-mul-row c = search needs
+mul-name : tie.Need-mul-name
+mul-name c = search needs
 
-mul-head : tie.Need-mul-head
-mul-head c = search needs
-
-shared-slice-read-head : tie.Need-shared-slice-read-head
-shared-slice-read-head c =
+shared-slice-read-name : tie.Need-shared-slice-read-name
+shared-slice-read-name c =
     let start = c .before .before .before in
-    omega (arith, heads-long _ (start .pre .0 .0))
-
-add-head : tie.Need-add-head
-add-head c = search needs
-
-mul-head-2 : tie.Need-mul-head-2
-mul-head-2 c = search needs
-
-shared-slice-read-head-2 : tie.Need-shared-slice-read-head-2
-shared-slice-read-head-2 c =
-    let start = c .before .before .before .before in
-    omega (arith, heads-long _ (start .pre .0 .0))
-
-mul-head-3 : tie.Need-mul-head-3
-unfolding headWord
-mul-head-3 c =
-    let start = c .before .before .before .before in
-    omega (arith, behind _ _ _ (head-low _ (start .pre .0 .0) _ _ (start .pre .0 .1) (start .pre .0 .2) (start .pre .0 .3)))
-  where
-    behind : (x y m : ℕ) → x + y < m → y < m
-    behind x y m lt = omega arith
-
-add-head-2 : tie.Need-add-head-2
-unfolding headWord
-add-head-2 c =
-    let start = c .before .before .before .before in
-    omega (arith, head-low _ (start .pre .0 .0) _ _ (start .pre .0 .1) (start .pre .0 .2) (start .pre .0 .3))
+    omega (arith, names-long _ (start .pre .0), start .pre .1 .op-high)
 
 store-requires : tie.Need-store-requires
 store-requires c κs = search needs
 
-add-result : tie.Need-add-result
-unfolding headWord
-add-result c =
+mul-store : tie.Need-mul-store
+mul-store c = search needs
+
+add-store : tie.Need-add-store
+add-store c = search needs
+
+store-requires-2 : tie.Need-store-requires-2
+store-requires-2 c κs =
     let start = c .before .before .before .before .before .before .before .before in
-    omega (arith, head-most _ (start .pre .0 .0) _ _ (start .pre .0 .1) (start .pre .0 .2) (start .pre .0 .3))
+    omega (arith, name-few _ (start .pre .0) _ (start .pre .1 .op-high), start .pre .2)
+
+add-result : tie.Need-add-result
+add-result c =
+    let start = c .before .before .before .before .before .before .before .before .before .before .before in
+    omega (arith, name-few _ (start .pre .0) _ (start .pre .1 .op-high))
 
 same-length : tie.Need-same-length
 same-length c = search needs
 
 returns : tie.Need-returns
-unfolding headWord
 returns c =
-    let start = c .before .before .before .before .before .before .before .before in
-    rw (c .before .before .store .ensures) (head-stored _ (start .pre .0 .0) _ _ (start .pre .0 .1) (start .pre .0 .2) (start .pre .0 .3) _ _)
+    let start = c .before .before .before .before .before .before .before .before .before .before .before in
+    (rw (c .before .before .store2 .ensures, c .before .before .before .before .before .before .store .ensures) (head-laid _ (start .pre .0) _ (start .pre .1 .op-high) _ _ (start .pre .1 .on-line) (start .pre .2)), omega (arith, name-few _ (start .pre .0) _ (start .pre .1 .op-high)))
 
 pub put-head-spec : {M : Type 1} → statement M
 put-head-spec =
     tie.close
     (tie.spec
-    mul-row
-    mul-head
-    shared-slice-read-head
-    add-head
-    mul-head-2
-    shared-slice-read-head-2
-    mul-head-3
-    add-head-2
+    mul-name
+    shared-slice-read-name
     store-requires
+    mul-store
+    add-store
+    store-requires-2
     add-result
     same-length
     returns)

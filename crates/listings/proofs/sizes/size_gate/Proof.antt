@@ -1,52 +1,44 @@
--- `listings::sizes::size_gate` meets its contract: it is the length of the gate's line by the record's bytes. Assumes nothing.
-use Prim.Native.Nat.{_≤_}
+-- `listings::sizes::size_gate` meets its contract: it is the length of the gate's line, by the names and the marks. Assumes nothing.
+use Rattle.listings.proofs.Lengths.{word-long}
+use Rattle.listings.proofs.Lines.{names-long, name-few, name-long}
 use native.Mathlib.Omega.{arith}
-use Rattle.gates.proofs.Records.{reads}
-use Rattle.listings.proofs.Lengths.{bytes-few, record-two, record-one}
+use borrow.Author.Needs.{needs}
 use Rattle.listings.proofs.sizes.size_gate.Statement.{statement}
 use Rattle.listings.proofs.sizes.size_gate.Tie as tie
 
-module _ (c : tie.After-size-controls) where
-  few : c .size-controls .result ≤ 30
-  few =
-      let a = c .before .before .args in
-      rw (c .size-controls .ensures) (bytes-few (a .cascade .now) (a .from))
+mul-name : tie.Need-mul-name
+mul-name c = search needs
 
-size-controls-requires : tie.Need-size-controls-requires
-size-controls-requires c κs = c .before .pre .1
-
-add-rest : tie.Need-add-rest
-add-rest c = omega (arith, few c)
-
-shared-slice-read-if1 : tie.Need-shared-slice-read-if1
-shared-slice-read-if1 c = omega (arith, reads _ _ _ (c .before .before .before .pre .1) .fits)
+shared-slice-read-name : tie.Need-shared-slice-read-name
+shared-slice-read-name c = omega (arith, names-long _ (c .before .before .pre .0), c .before .before .pre .1 .op-high)
 
 add-result : tie.Need-add-result
-add-result c = omega (arith, few (c .before .before))
+add-result c = omega (arith, name-few _ (c .before .before .pre .0) _ (c .before .before .pre .1 .op-high))
+
+mark-controls-requires : tie.Need-mark-controls-requires
+mark-controls-requires c κs = search needs
+
+mul-result : tie.Need-mul-result
+mul-result c = search needs
 
 add-result-2 : tie.Need-add-result-2
-add-result-2 c = omega (arith, few (c .before .before))
+add-result-2 c =
+    let start = c .before .before .before in
+    omega (arith, name-few _ (start .pre .0) _ (start .pre .1 .op-high))
 
 returns : tie.Need-returns
 returns c =
-    let d = c .before .before in
-    let start = d .before .before in
-    rw (d .size-controls .ensures) (record-two _ _ _ (start .pre .0) (start .pre .1) (c .if1 .taken))
-
-returns-2 : tie.Need-returns-2
-returns-2 c =
-    let d = c .before .before in
-    let start = d .before .before in
-    rw (d .size-controls .ensures) (record-one _ _ _ (start .pre .0) (start .pre .1) (c .if1 .left))
+    let start = c .before .before .before in
+    rw (name-long _ (start .pre .0) _ (start .pre .1 .op-high), c .mark-controls .ensures) (word-long _ (start .pre .1))
 
 pub size-gate-spec : {M : Type 1} → statement M
 size-gate-spec =
     tie.close
     (tie.spec
-    size-controls-requires
-    add-rest
-    shared-slice-read-if1
+    mul-name
+    shared-slice-read-name
     add-result
+    mark-controls-requires
+    mul-result
     add-result-2
-    returns
-    returns-2)
+    returns)

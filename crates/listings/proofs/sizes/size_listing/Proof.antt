@@ -47,14 +47,14 @@ size-gates-requires c κs = search needs
 add-result-4 : tie.Need-add-result-4
 add-result-4 c =
     let d = c .before .before .before in
-    let start = d .before .before in
-    omega (arith, few-digits _ _ (d .size-decimal .ensures), few-digits _ _ (c .before .before .size-decimal2 .ensures), few-digits _ _ (c .before .size-decimal3 .ensures), c .size-gates .ensures, few _ _ _ (start .pre .0) (start .pre .1))
+    let start = d .before .before .before in
+    omega (arith, few-digits _ _ (d .size-decimal .ensures), few-digits _ _ (c .before .before .size-decimal2 .ensures), few-digits _ _ (c .before .size-decimal3 .ensures), c .size-gates .ensures, few _ _ _ (start .pre .1) (start .pre .2))
 
 returns : tie.Need-returns
 returns c =
     let d = c .before .before .before in
-    let start = d .before .before in
-    rw (d .size-decimal .ensures, c .before .before .size-decimal2 .ensures, c .before .size-decimal3 .ensures, c .size-gates .ensures) (size _ _ _ (start .pre .0) (start .pre .1))
+    let start = d .before .before .before in
+    rw (d .size-decimal .ensures, c .before .before .size-decimal2 .ensures, c .before .size-decimal3 .ensures, c .size-gates .ensures) (size _ _ _ (start .pre .1) (start .pre .2))
 
 pub size-listing-spec : {M : Type 1} → statement M
 size-listing-spec =

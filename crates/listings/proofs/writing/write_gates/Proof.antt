@@ -1,55 +1,116 @@
--- `listings::writing::write_gates` meets its contract: whole pieces for all but the last four lines, and then those. Assumes nothing.
+-- `listings::writing::write_gates` meets its contract: at each turn gate i's line is the first piece of what is left. Assumes nothing.
+use mathlib.Core.Path.{_≡_, refl, sym, _∙_}
+use mathlib.Core.List.{List, _++_}
+use Prim.Native.Nat.{ℕ, _+_, _-_, _≤_}
+use native.Mathlib.Nat.{sub-zero}
+use lib.ListN.{length, take}
+use lib.Seq.{length-take-le}
 use native.Mathlib.Omega.{arith}
-use Rattle.listings.proofs.Spills.{lines-start}
-use Rattle.listings.proofs.Writes.{writing-last, left-fits}
+use Rattle.ranges.specs.Ranges.{span}
+use Rattle.gates.proofs.Bytes.{word-gate}
+use Rattle.cascades.specs.Cascades.{records, gatesOf}
+use Rattle.cascades.proofs.Cascades.{gateOf}
+use Rattle.listings.specs.Listings.{gateText, gateTexts}
+use Rattle.listings.specs.Pieces.{Writing}
+use Rattle.listings.proofs.Layouts.{gates-more, gates-end}
+use Rattle.listings.proofs.Lines.{word-gated}
+use Rattle.listings.proofs.Writes.{writing-start, writing-next, writing-end, piece-fits}
 use borrow.Author.Needs.{needs}
 use Rattle.listings.proofs.writing.write_gates.Statement.{statement}
 use Rattle.listings.proofs.writing.write_gates.Tie as tie
 
-write-from-requires : tie.Need-write-from-requires
-write-from-requires c κs =
-    let start = c .before .before .before .before in
-    (start .pre .0, omega arith, rw (lines-start (start .args .cascade .now)) at (start .pre .1))
+-- the lines of the gates from gate i on are left
+record Going (b line₀ room₀ : List ℕ) (at m : ℕ) (line room : List ℕ) (to i : ℕ) : Type 0 where
+  within : i ≤ m
+  line-long : length line ≡ length line₀
+  writing : Writing room₀ at (gateTexts (gatesOf b)) room to (gateTexts (span (gateOf b) i (m - i)))
 
-same-length : tie.Need-same-length
-same-length c = search needs
+abbrev Inv-loop : tie.InvT-loop
+Inv-loop names lines cascade line₀ room₀ at m to₀ i₀ line room to i = Going cascade line₀ room₀ at m line room to i
 
-returns : tie.Need-returns
-returns c = rw (lines-start (c .before .before .before .before .before .before .before .args .cascade .now)) (c .before .before .write-from .ensures)
+abbrev μ-loop : tie.MeasureT-loop
+μ-loop names lines cascade line₀ room₀ at m to₀ i₀ line room to i = m - i
 
-sub-put-first : tie.Need-sub-put-first
-sub-put-first c = search needs
+module _ (c : tie.After-put-gate Inv-loop μ-loop) where
+  end-within : c .put-gate .result ≤ length (c .put-gate .last .1 .1 .0)
+  end-within = omega (arith, c .put-gate .ensures .1, c .put-gate .ensures .0 .long, c .before .before .before .before .loop .inv .line-long, c .before .before .before .before .before .before .before .before .before .pre .2)
 
-put-first-requires : tie.Need-put-first-requires
-put-first-requires c κs =
-    let start = c .before .before .before .before in
-    (start .pre .0, omega (arith, c .before .if1 .left), rw (lines-start (start .args .cascade .now)) at (start .pre .1))
+  -- what was laid is gate i's line, and it is the first piece of what is left
+  laid : take (c .put-gate .result) (c .put-gate .last .1 .1 .0) ≡ gateText (gateOf (c .before .before .before .before .before .before .before .before .before .args .cascade .now) (c .before .before .before .before .loop .i))
+  laid = c .put-gate .ensures .0 .starts ∙ rw (word-gate _ _ _ (c .before .before .word-at .ensures))
 
-sub-write-from : tie.Need-sub-write-from
-sub-write-from c = search needs
+  next : (let a = c .before .before .before .before .before .before .before .before .before .args in let d = c .before .before .before .before .loop in
+      Writing (a .room .now) (a .at) (gateTexts (gatesOf (a .cascade .now))) (d .room) (d .to) (gateText (gateOf (a .cascade .now) (d .i)) ++ gateTexts (span (gateOf (a .cascade .now)) (d .i + 1) (records (a .cascade .now) - (d .i + 1)))))
+  next = rw (gates-more _ _ _ (c .before .before .before .loop-test .taken)) at (c .before .before .before .before .loop .inv .writing)
 
-write-from-requires-2 : tie.Need-write-from-requires-2
-write-from-requires-2 c κs =
+loop-holds : tie.Need-loop-holds Inv-loop μ-loop
+unfolding gatesOf
+loop-holds c = record { within = omega arith; line-long = refl; writing = rw sub-zero (writing-start _ _ _) }
+
+mul-word-at : tie.Need-mul-word-at Inv-loop μ-loop
+mul-word-at c = omega (arith, c .before .before .before .before .before .before .pre .1 .most, c .loop-test .taken)
+
+word-at-requires : tie.Need-word-at-requires Inv-loop μ-loop
+word-at-requires c κs = omega (arith, c .before .before .before .before .before .before .pre .1 .size, c .loop-test .taken)
+
+put-gate-requires : tie.Need-put-gate-requires Inv-loop μ-loop
+put-gate-requires c κs =
     let start = c .before .before .before .before .before .before .before .before in
-    (start .pre .0, omega arith, left-fits (c .before .before .before .put-first .ensures) (rw (lines-start (start .args .cascade .now)) at (start .pre .1)))
+    (start .pre .0, word-gated _ _ _ _ _ (start .pre .1) (c .before .before .loop-test .taken) (c .before .word-at .ensures), c .before .before .before .loop .inv .line-long ∙ start .pre .2)
 
-same-length-2 : tie.Need-same-length-2
-same-length-2 c = search needs
+slice-reshare-prefix-write-text : tie.Need-slice-reshare-prefix-write-text Inv-loop μ-loop
+slice-reshare-prefix-write-text c = end-within (c .before .before)
 
-returns-2 : tie.Need-returns-2
-returns-2 c =
-    rw (lines-start (c .before .before .before .before .before .before .before .before .before .before .before .args .cascade .now)) (writing-last (c .before .before .before .before .before .before .put-first .ensures) (c .before .before .write-from2 .ensures))
+slice-aggregate-write-text : tie.Need-slice-aggregate-write-text Inv-loop μ-loop
+slice-aggregate-write-text c = sym (length-take-le _ _ (end-within (c .before .before .before)))
+
+write-text-requires : tie.Need-write-text-requires Inv-loop μ-loop
+write-text-requires c κs =
+    let d = c .before .before .before .before in
+    let b = d .before .before .before .before .before .before .before .before .before .args .cascade .now in
+    let i = d .before .before .before .before .loop .i in
+    rw (laid d) (piece-fits (gateText (gateOf b i)) (gateTexts (span (gateOf b) (i + 1) (records b - (i + 1)))) (next d) (d .before .before .before .before .before .before .before .before .before .pre .3))
+
+add-i : tie.Need-add-i Inv-loop μ-loop
+add-i c = search needs
+
+loop-less : tie.Need-loop-less Inv-loop μ-loop
+loop-less c = search needs
+
+loop-again : tie.Need-loop-again Inv-loop μ-loop
+loop-again c =
+    let d = c .before .before .before .before .before .before .before in
+    record {
+      within = omega (arith, d .before .before .before .loop-test .taken);
+      line-long = d .put-gate .ensures .0 .long ∙ d .before .before .before .before .loop .inv .line-long;
+      writing = writing-next (next d) (rw (laid d) at (c .before .before .write-text .ensures));
+    }
+
+same-length : tie.Need-same-length Inv-loop μ-loop
+same-length c = c .before .loop .inv .line-long
+
+same-length-2 : tie.Need-same-length-2 Inv-loop μ-loop
+same-length-2 c = c .before .loop .inv .writing .long
+
+returns : tie.Need-returns Inv-loop μ-loop
+returns c = writing-end (rw (gates-end _ _ _ (c .loop-test .left)) at (c .before .loop .inv .writing))
 
 pub write-gates-spec : {M : Type 1} → statement M
 write-gates-spec =
     tie.close
     (tie.spec
-    write-from-requires
+    Inv-loop
+    μ-loop
+    loop-holds
+    mul-word-at
+    word-at-requires
+    put-gate-requires
+    slice-reshare-prefix-write-text
+    slice-aggregate-write-text
+    write-text-requires
+    add-i
+    loop-less
+    loop-again
     same-length
-    returns
-    sub-put-first
-    put-first-requires
-    sub-write-from
-    write-from-requires-2
     same-length-2
-    returns-2)
+    returns)
