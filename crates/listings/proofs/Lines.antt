@@ -1,7 +1,7 @@
 -- A gate's line laid out by whole words: a word that begins with a text lays it, and one text is laid behind the other. Which words begin with which
 -- texts is computed. Assumes nothing.
 use mathlib.Core.Path.{_≡_, refl, sym, ap, _∙_}
-use mathlib.Core.Bool.{true, false, cond, _&&_}
+use mathlib.Core.Bool.{Bool, true, false, cond}
 use mathlib.Core.List.{List, [], _∷_, _++_, append-assoc, append-nil}
 use Prim.Native.Nat.{ℕ, _+_, _-_, _*_, _/_, _%_, _^_, _≤_, _<_}
 use native.Mathlib.Nat.{zero-add}
@@ -23,7 +23,7 @@ use Rattle.card.proofs.Cards.{lines-are}
 use Rattle.cascades.specs.Cascades.{Whole}
 use Rattle.listings.specs.Texts.{ascii, width, decimal}
 use Rattle.listings.specs.Listings.{joined, nameOf, lineText, controlText}
-use Rattle.listings.specs.Pieces.{begins, nameRight, namesRight, Gated, Laid}
+use Rattle.listings.specs.Pieces.{begins, carries, nameRight, namesRight, Gated, Laid}
 use Rattle.listings.proofs.Layouts.{joined-snoc}
 use Rattle.listings.proofs.Lengths.{name-most}
 
@@ -53,8 +53,16 @@ begins-is (x ∷ text) [] e = clash false e refl
 begins-is (x ∷ text) (y ∷ bytes) e =
     rw (eqb-true x y (and-left (eqb x y) (begins text bytes) e)) (ap (λ (r : List ℕ). y ∷ r) (begins-is text bytes (and-right (eqb x y) (begins text bytes) e)))
 
-pub laid-word : (line : List ℕ) (at w : ℕ) (text : List ℕ) → begins text (bytesIn w) ≡ true → at + 8 ≤ length line → Laid line at text (sets line at (bytesIn w)) (at + length text)
-laid-word line at w text e fits = laid-run line at (bytesIn w) text (drop (length text) (bytesIn w)) (begins-is text (bytesIn w) e) (rw (length-word w) fits)
+module _ (w : ℕ) (text : List ℕ) (size : ℕ) (right : carries w text size ≡ true) where
+  carried-size : size ≡ length text
+  unfolding carries
+  carried-size = eqb-true size (length text) (and-right (begins text (bytesIn w)) (eqb size (length text)) right)
+
+  laid-word : (line : List ℕ) (at : ℕ) → at + 8 ≤ length line → Laid line at text (sets line at (bytesIn w)) (at + size)
+  unfolding carries
+  laid-word line at fits =
+      let is = begins-is text (bytesIn w) (and-left (begins text (bytesIn w)) (eqb size (length text)) right) in
+      rw carried-size (laid-run line at (bytesIn w) text (drop (length text) (bytesIn w)) is (rw (length-word w) fits))
 
 pub laid-next : {line text piece mid now : List ℕ} {at to next : ℕ} → Laid line at text mid to → Laid mid to piece now next → Laid line at (text ++ piece) now next
 laid-next {line} {text} {piece} {mid} {now} {at} s t =
@@ -63,9 +71,26 @@ laid-next {line} {text} {piece} {mid} {now} {at} s t =
 -- ---- the words
 
 -- ` x0` with the line added to the digit
-line-word : (t : ℕ) → t < 6 → (begins (lineText t) (bytesIn (3176480 + 65536 * t)) && eqb (length (lineText t)) 3) ≡ true
-unfolding begins lineText decimal width first span every digit bytesIn
-line-word t lt = every-below (λ t. begins (lineText t) (bytesIn (3176480 + 65536 * t)) && eqb (length (lineText t)) 3) 6 refl t lt
+abbrev lineWord : ℕ → ℕ
+lineWord t = 3176480 + 65536 * t
+
+line-word : (t : ℕ) → t < 6 → carries (lineWord t) (lineText t) 3 ≡ true
+unfolding carries begins lineText decimal width first span every digit bytesIn
+line-word t lt = every-below (λ t. carries (lineWord t) (lineText t) 3) 6 refl t lt
+
+-- ` x0=0` with the line and the value added to the digits, for the control c on line k
+abbrev controlWord : ℕ → ℕ → ℕ
+controlWord k c = 207185016864 + 65536 * k + 4294967296 * c
+
+unfoldable controlOn : ℕ → ℕ → List ℕ
+controlOn k c = cond (eqb c 3) [] (lineText k ++ ascii "=" ++ decimal c)
+
+abbrev controlRight : ℕ → ℕ → Bool
+controlRight k c = carries (controlWord k c) (controlOn k c) (5 - 5 * (c / 3))
+
+control-right : (k c : ℕ) → k < 6 → c < 4 → controlRight k c ≡ true
+unfolding carries begins controlOn lineText decimal width first span every digit bytesIn
+control-right k c lt small = every-below (controlRight k) 4 (every-below (λ k. every (controlRight k) 0 4) 6 refl k lt) c small
 
 module _ (names : List ℕ) (right : namesRight names ≡ true) where
   pub names-long : length names ≡ 6
@@ -73,39 +98,25 @@ module _ (names : List ℕ) (right : namesRight names ≡ true) where
   names-long = eqb-true (length names) 6 (and-left (eqb (length names) 6) (every (nameRight names) 0 6) right)
 
   module _ (o : ℕ) (high : o ≤ 5) where
-    name-word : (begins (nameOf o) (bytesIn (getD names o 0)) && eqb (getD names o 0 / 72057594037927936) (length (nameOf o))) ≡ true
+    abbrev word : ℕ
+    word = getD names o 0
+
+    name-word : carries word (nameOf o) (word / 72057594037927936) ≡ true
     unfolding namesRight nameRight
     name-word = every-below (nameRight names) 6 (and-right (eqb (length names) 6) (every (nameRight names) 0 6) right) o (omega arith)
 
-    pub name-long : getD names o 0 / 72057594037927936 ≡ length (nameOf o)
-    name-long = eqb-true _ _ (and-right (begins (nameOf o) (bytesIn (getD names o 0))) _ name-word)
+    pub name-long : word / 72057594037927936 ≡ length (nameOf o)
+    name-long = carried-size word (nameOf o) (word / 72057594037927936) name-word
 
-    pub name-few : getD names o 0 / 72057594037927936 ≤ 2
+    pub name-few : word / 72057594037927936 ≤ 2
     name-few = omega (arith, name-long, name-most o high)
 
     -- the name's word, and behind the name the target's
     pub head-laid : (t : ℕ) (line : List ℕ) → t < 6 → length line ≡ 48
-        → Laid line 0 (nameOf o ++ lineText t) (sets (sets line 0 (bytesIn (getD names o 0))) (getD names o 0 / 72057594037927936) (bytesIn (3176480 + 65536 * t))) (getD names o 0 / 72057594037927936 + 3)
+        → Laid line 0 (nameOf o ++ lineText t) (sets (sets line 0 (bytesIn word)) (word / 72057594037927936) (bytesIn (lineWord t))) (word / 72057594037927936 + 3)
     head-laid t line lt long =
-        let three = eqb-true (length (lineText t)) 3 (and-right (begins (lineText t) (bytesIn (3176480 + 65536 * t))) _ (line-word t lt)) in
-        rw (name-long, ← three)
-        (laid-next (rw (zero-add (length (nameOf o))) at (laid-word line 0 (getD names o 0) (nameOf o) (and-left _ _ name-word) (omega (arith, long))))
-        (laid-word (sets line 0 (bytesIn (getD names o 0))) (length (nameOf o)) (3176480 + 65536 * t) (lineText t) (and-left _ _ (line-word t lt))
-        (omega (arith, name-most o high, length-sets line 0 (bytesIn (getD names o 0)), long))))
-
--- the control c on line k
-unfoldable controlOn : ℕ → ℕ → List ℕ
-controlOn k c = cond (eqb c 3) [] (lineText k ++ ascii "=" ++ decimal c)
-
--- ` x0=0` with the line and the value added to the digits
-abbrev controlWord : ℕ → ℕ → ℕ
-controlWord k c = 207185016864 + 65536 * k + 4294967296 * c
-
-control-begins : (k c : ℕ) → k < 6 → c < 4 → (begins (controlOn k c) (bytesIn (controlWord k c)) && eqb (length (controlOn k c)) (5 - 5 * (c / 3))) ≡ true
-unfolding begins controlOn lineText decimal width first span every digit bytesIn
-control-begins k c lt small =
-    every-below (λ c. begins (controlOn k c) (bytesIn (controlWord k c)) && eqb (length (controlOn k c)) (5 - 5 * (c / 3))) 4
-    (every-below (λ k. every (λ c. begins (controlOn k c) (bytesIn (controlWord k c)) && eqb (length (controlOn k c)) (5 - 5 * (c / 3))) 0 4) 6 refl k lt) c small
+        laid-next (rw (zero-add (word / 72057594037927936)) at (laid-word word (nameOf o) (word / 72057594037927936) name-word line 0 (omega (arith, long))))
+        (laid-word (lineWord t) (lineText t) 3 (line-word t lt) (sets line 0 (bytesIn word)) (word / 72057594037927936) (omega (arith, name-few, length-sets line 0 (bytesIn word), long)))
 
 -- ---- a word that was read from a cascade
 
@@ -144,8 +155,6 @@ module _ (w : ℕ) (line₀ : List ℕ) (at : ℕ) (line : List ℕ) (rest to k 
 
   pub turn : Going w line₀ at (sets line to (bytesIn (controlWord k (rest % 256)))) (rest / 256) (to + (5 - 5 * (rest % 256 / 3))) (k + 1)
   turn =
-      let fact = control-begins k (rest % 256) lt value-small in
-      let long = eqb-true (length (controlOn k (rest % 256))) (5 - 5 * (rest % 256 / 3)) (and-right (begins (controlOn k (rest % 256)) (bytesIn (controlWord k (rest % 256)))) _ fact) in
       record {
         gated = g .gated;
         room = g .room;
@@ -153,6 +162,6 @@ module _ (w : ℕ) (line₀ : List ℕ) (at : ℕ) (line : List ℕ) (rest to k 
         left = shift-next 256 k (w / 65536) rest (g .left);
         most = omega (arith, g .most);
         laid =
-            rw (joined-snoc (controlText (gateOf w)) k, text-is, ← long)
-            (laid-next (g .laid) (laid-word line to (controlWord k (rest % 256)) (controlOn k (rest % 256)) (and-left _ _ fact) (omega (arith, g .most, g .laid .long, g .room))));
+            rw (joined-snoc (controlText (gateOf w)) k, text-is)
+            (laid-next (g .laid) (laid-word (controlWord k (rest % 256)) (controlOn k (rest % 256)) (5 - 5 * (rest % 256 / 3)) (control-right k (rest % 256) lt value-small) line to (omega (arith, g .most, g .laid .long, g .room))));
       }

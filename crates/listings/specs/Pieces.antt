@@ -16,9 +16,13 @@ begins [] bytes = true
 begins (x ∷ text) [] = false
 begins (x ∷ text) (y ∷ bytes) = eqb x y && begins text bytes
 
+-- the bytes of a word begin with a text, which has so many
+unfoldable pub carries : ℕ → List ℕ → ℕ → Bool
+carries w text size = begins text (bytesIn w) && eqb size (length text)
+
 -- the word of operator o begins with its name, and has the name's length in the highest byte
 unfoldable pub nameRight : List ℕ → ℕ → Bool
-nameRight names o = begins (nameOf o) (bytesIn (getD names o 0)) && eqb (getD names o 0 / 72057594037927936) (length (nameOf o))
+nameRight names o = carries (getD names o 0) (nameOf o) (getD names o 0 / 72057594037927936)
 
 unfoldable pub namesRight : List ℕ → Bool
 namesRight names = eqb (length names) 6 && every (nameRight names) 0 6

@@ -44,11 +44,8 @@ fn put_controls(w: u64, line: &mut [u8], at: usize) -> usize
     let mut k: u64 = 0;
     while k < 6 {
         let c = rest % 256;
-        words::store(
-            0x0030_3d30_7820 + 0x0001_0000 * k + 0x0001_0000_0000 * c,
-            line,
-            to,
-        );
+        let control = 0x0030_3d30_7820 + 0x0001_0000 * k + 0x0001_0000_0000 * c;
+        words::store(control, line, to);
         to = to + (5 - 5 * (c / 3)) as usize;
         rest = rest / 256;
         k = k + 1;

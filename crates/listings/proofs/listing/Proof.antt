@@ -14,7 +14,7 @@ use Rattle.cascades.specs.Answers.{pricedAs}
 use Rattle.cascades.proofs.Answers.{passed}
 use Rattle.cascades.proofs.Sounds.{price-whole, price-value, price-refused}
 use Rattle.listings.specs.Listings.{nameOf, listingAnswer, listingRoom}
-use Rattle.listings.specs.Pieces.{begins, nameRight, namesRight}
+use Rattle.listings.specs.Pieces.{begins, carries, nameRight, namesRight}
 use Rattle.listings.proofs.Writes.{written-long}
 use borrow.Author.Needs.{needs}
 use Rattle.listings.proofs.listing.Statement.{statement}
@@ -44,7 +44,7 @@ slice-aggregate-size-listing : tie.Need-slice-aggregate-size-listing
 slice-aggregate-size-listing c = search needs
 
 size-listing-requires : tie.Need-size-listing-requires
-unfolding namesRight nameRight begins nameOf every digit bytesIn
+unfolding namesRight nameRight carries begins nameOf every digit bytesIn
 size-listing-requires c κs = (refl, whole c, cost-is c)
 
 returns : tie.Need-returns
@@ -57,7 +57,7 @@ slice-aggregate-write-listing : tie.Need-slice-aggregate-write-listing
 slice-aggregate-write-listing c = search needs
 
 write-listing-requires : tie.Need-write-listing-requires
-unfolding namesRight nameRight begins nameOf every digit bytesIn
+unfolding namesRight nameRight carries begins nameOf every digit bytesIn
 write-listing-requires c κs =
     let d = c .before .before .before .before in
     (refl, whole d, cost-is d, rw (c .before .before .before .size-listing .ensures) at (c .before .before .if1 .left))

@@ -16,17 +16,17 @@ abbrev μ-loop : tie.MeasureT-loop
 loop-holds : tie.Need-loop-holds Inv-loop μ-loop
 loop-holds c = going-start _ _ _ (c .before .pre .0) (c .before .pre .2) (c .before .pre .1)
 
-mul-store : tie.Need-mul-store Inv-loop μ-loop
-mul-store c = search needs
+mul-control : tie.Need-mul-control Inv-loop μ-loop
+mul-control c = search needs
 
-add-store : tie.Need-add-store Inv-loop μ-loop
-add-store c = search needs
+add-control : tie.Need-add-control Inv-loop μ-loop
+add-control c = search needs
 
-mul-store-2 : tie.Need-mul-store-2 Inv-loop μ-loop
-mul-store-2 c = search needs
+mul-control-2 : tie.Need-mul-control-2 Inv-loop μ-loop
+mul-control-2 c = search needs
 
-add-store-2 : tie.Need-add-store-2 Inv-loop μ-loop
-add-store-2 c = search needs
+add-control-2 : tie.Need-add-control-2 Inv-loop μ-loop
+add-control-2 c = search needs
 
 store-requires : tie.Need-store-requires Inv-loop μ-loop
 store-requires c κs = omega (arith, c .before .before .loop .inv .most, c .before .before .loop .inv .laid .long, c .before .before .loop .inv .room, c .before .loop-test .taken)
@@ -68,10 +68,10 @@ put-controls-spec =
     Inv-loop
     μ-loop
     loop-holds
-    mul-store
-    add-store
-    mul-store-2
-    add-store-2
+    mul-control
+    add-control
+    mul-control-2
+    add-control-2
     store-requires
     mul-to
     sub-to
