@@ -11,7 +11,8 @@ ghost use Rattle.listings.specs.Listings.{nameOf, lineText, controlText,
 ghost use Rattle.listings.specs.Pieces.{namesRight, Gated, Laid};
 use gates::words;
 
-// The name of each operator from 0 on: its letters from the lowest byte up, and in the highest byte how many they are.
+// The name of each operator from 0 on: its letters from the lowest byte up (43 is C, 31 and 32 are 1 and 2, 4e is N, 44 is D, 45 is E), and in the
+// highest byte how many they are. No gate has operator 0.
 pub const NAMES: [u64; 6] = [
     0x0000_0000_0000_0000,
     0x0200_0000_0000_3143,
@@ -21,7 +22,7 @@ pub const NAMES: [u64; 6] = [
     0x0100_0000_0000_0045,
 ];
 
-// The operator and the target. The second word is ` x0` from the lowest byte up, with the target added to the digit.
+// The operator and the target. The second word is ` x0` from the lowest byte up (20, 78, 30), with the target added to the digit.
 fn put_head(names: &[u64], w: u64, line: &mut [u8]) -> usize
     requires { ⌜ (namesRight (now names) ≡ true) × Gated w × (length (now line) ≡ 48) ⌝ }
     ensures { λ r. ⌜ Laid (now (line .entry)) 0 (nameOf (w % 256) ++ lineText (w / 256 % 256)) (now (line .exit)) r × (r ≤ 10) ⌝ }
@@ -33,8 +34,8 @@ fn put_head(names: &[u64], w: u64, line: &mut [u8]) -> usize
     named + 3
 }
 
-// The controls, in rising line order. A word is ` x0=0` from the lowest byte up, with the line and the value added to the digits; where there is no
-// control, which is the value 3, the next one is stored at the same place.
+// The controls, in rising line order. A word is ` x0=0` from the lowest byte up (20, 78, 30, 3d, 30), with the line and the value added to the digits;
+// where there is no control, which is the value 3, the next one is stored at the same place.
 fn put_controls(w: u64, line: &mut [u8], at: usize) -> usize
     requires { ⌜ Gated w × (at ≤ 10) × (length (now line) ≡ 48) ⌝ }
     ensures { λ r. ⌜ Laid (now (line .entry)) at (joined (span (controlText (gateOf w)) 0 6)) (now (line .exit)) r × (r ≤ 40) ⌝ }
