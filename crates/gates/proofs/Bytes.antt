@@ -16,8 +16,8 @@ use Rattle.ranges.specs.Ranges.{every, sum}
 use Rattle.ranges.proofs.Bools.{and-right, decide}
 use Rattle.ranges.proofs.Tests.{every-below, every-of, every-ext}
 use Rattle.digits.specs.Digits.{digit, pack}
-use Rattle.digits.proofs.Digits.{digit-zero, digit-suc, digit-lt, digit-low, digit-up, digits-equal, low-div, low-mod}
-use Rattle.digits.proofs.Packs.{pack-ext, pack-digits}
+use Rattle.digits.proofs.Digits.{digit-zero, digit-suc, digit-lt, digit-low, digit-up, digits-equal, shift-digits, low-div, low-mod}
+use Rattle.digits.proofs.Packs.{pack-ext}
 use Rattle.digits.proofs.Bits.{digit-and}
 use Rattle.gates.specs.Gates.{inverseOp}
 use Rattle.gates.specs.Records.{lineOk, linesOkAt, packedAt, isRecord, gateAt, asRecord, decoded}
@@ -209,44 +209,7 @@ module _ (a b c0 c1 c2 c3 c4 c5 : ℕ) (la : a < 256) (lb : b < 256) (l0 : c0 < 
   unfolding bytesIn
   eight-bytes =
       let last : byte 0 c5 ≡ c5 = rw digit-zero (omega arith) in
-      rw (
-        low-byte a _ la,
-        next-byte 0 a _ la,
-        next-byte 1 a _ la,
-        next-byte 2 a _ la,
-        next-byte 3 a _ la,
-        next-byte 4 a _ la,
-        next-byte 5 a _ la,
-        next-byte 6 a _ la,
-        low-byte b _ lb,
-        next-byte 0 b _ lb,
-        next-byte 1 b _ lb,
-        next-byte 2 b _ lb,
-        next-byte 3 b _ lb,
-        next-byte 4 b _ lb,
-        next-byte 5 b _ lb,
-        low-byte c0 _ l0,
-        next-byte 0 c0 _ l0,
-        next-byte 1 c0 _ l0,
-        next-byte 2 c0 _ l0,
-        next-byte 3 c0 _ l0,
-        next-byte 4 c0 _ l0,
-        low-byte c1 _ l1,
-        next-byte 0 c1 _ l1,
-        next-byte 1 c1 _ l1,
-        next-byte 2 c1 _ l1,
-        next-byte 3 c1 _ l1,
-        low-byte c2 _ l2,
-        next-byte 0 c2 _ l2,
-        next-byte 1 c2 _ l2,
-        next-byte 2 c2 _ l2,
-        low-byte c3 _ l3,
-        next-byte 0 c3 _ l3,
-        next-byte 1 c3 _ l3,
-        low-byte c4 _ l4,
-        next-byte 0 c4 _ l4,
-        last,
-      )
+      simp (low-byte, next-byte 0, next-byte 1, next-byte 2, next-byte 3, next-byte 4, next-byte 5, next-byte 6, last)
 
 -- ---- a word against the bytes it was read from
 
@@ -287,58 +250,30 @@ module _ (b : List ℕ) (at w : ℕ) (read : Word b at w) where
 
 -- ---- its control bytes packed
 
--- times 4161, which is 4096 and 64 and 1: from bit 12 up, and from bit 36 up, stand three control bytes side by side
-triple-lt : (a b c : ℕ) → a < 4 → b < 4 → c < 4 → a + 4 * b + 16 * c < 64
-triple-lt a b c la lb lc = omega arith
+-- three of them, times 4161
+three-packed : (a b c x : ℕ) → a < 4 → b < 4 → c < 4 → x ≡ a + 256 * b + 65536 * c → 4161 * x / 4096 % 64 ≡ a + 4 * b + 16 * c
+unfolding every
+three-packed a b c x la lb lc e =
+    let right : ℕ → ℕ → ℕ → Bool = λ a b c. eqb (4161 * (a + 256 * b + 65536 * c) / 4096 % 64) (a + 4 * b + 16 * c) in
+    let all : every (λ a. every (λ b. every (right a b) 0 4) 0 4) 0 4 ≡ true = refl in
+    rw e (eqb-true _ _ (every-below (right a b) 4 (every-below (λ b. every (right a b) 0 4) 4 (every-below (λ a. every (λ b. every (right a b) 0 4) 0 4) 4 all a la) b lb) c lc))
 
-below-low : (a b : ℕ) → a < 4 → b < 4 → 65 * a + 256 * b < 4096
-below-low a b la lb = omega arith
+-- three bytes from byte j on
+three-bytes : (j w q : ℕ) → q ≡ w / 256 ^ j → q % 16777216 ≡ byte (j + 0) w + 256 * byte (j + 1) w + 65536 * byte (j + 2) w
+three-bytes j w q e =
+    let three : q % 16777216 ≡ byte 0 q + 256 * byte 1 q + 65536 * byte 2 q = unfold digit in omega arith in
+    three ∙ rw (shift-digits 256 j 0 w q e, shift-digits 256 j 1 w q e, shift-digits 256 j 2 w q e)
 
-below-up : (a b c d e : ℕ) → a < 4 → b < 4 → c < 4 → d < 4 → e < 4 → a + 260 * b + 66576 * c + 266240 * d + 1048576 * e < 16777216
-below-up a b c d e la lb lc ld le = omega arith
-
-triples : (a b c d e f : ℕ) → a + 4 * b + 16 * c + 64 * (d + 4 * e + 16 * f) ≡ a * 1 + (b * 4 + (c * 16 + (d * 64 + (e * 256 + (f * 1024 + 0)))))
-triples a b c d e f = omega arith
-
-up-up : (s : ℕ) → s / 68719476736 ≡ s / 4096 / 16777216
-up-up s = omega arith
-
--- the first lowest
-module _ (a b c d e f : ℕ) (la : a < 4) (lb : b < 4) (lc : c < 4) (ld : d < 4) (le : e < 4) (lf : f < 4) where
-  six-packed : (x s : ℕ) → x ≡ a + 256 * (b + 256 * (c + 256 * (d + 256 * (e + 256 * f)))) → s ≡ 4161 * x
-      → s / 4096 % 64 + 64 * (s / 68719476736 % 64) ≡ a * 1 + (b * 4 + (c * 16 + (d * 64 + (e * 256 + (f * 1024 + 0)))))
-  six-packed x s ex es =
-      let q : ℕ = 4 * b + 1040 * c + 266304 * d + 68173824 * e + 17452498944 * f in
-      let whole : s ≡ 65 * a + 256 * b + 4096 * (a + 4 * b + 16 * c + 64 * q) = omega (arith, ex, es) in
-      let low : s / 4096 ≡ a + 4 * b + 16 * c + 64 * q = ap (λ (z : ℕ). z / 4096) whole ∙ low-div (a + 4 * b + 16 * c + 64 * q) (below-low a b la lb) in
-      let high : s / 4096 ≡ a + 260 * b + 66576 * c + 266240 * d + 1048576 * e + 16777216 * (d + 4 * e + 16 * f + 64 * (4 * e + 1040 * f)) = low ∙ omega arith in
-      let first : s / 4096 % 64 ≡ a + 4 * b + 16 * c = ap (λ (z : ℕ). z % 64) low ∙ low-mod q (triple-lt a b c la lb lc) in
-      let up : s / 68719476736 ≡ d + 4 * e + 16 * f + 64 * (4 * e + 1040 * f) =
-      up-up s ∙ ap (λ (z : ℕ). z / 16777216) high ∙ low-div (d + 4 * e + 16 * f + 64 * (4 * e + 1040 * f)) (below-up a b c d e la lb lc ld le) in
-      let second : s / 68719476736 % 64 ≡ d + 4 * e + 16 * f = ap (λ (z : ℕ). z % 64) up ∙ low-mod (4 * e + 1040 * f) (triple-lt d e f ld le lf) in
-      rw (first, second) (triples a b c d e f)
-
--- the six control bytes make up all above the first two bytes
-six-up : (w : ℕ) → w < 256 ^ 8 → w / 65536 ≡ byte 2 w + 256 * (byte 3 w + 256 * (byte 4 w + 256 * (byte 5 w + 256 * (byte 6 w + 256 * byte 7 w))))
+pub packed-bytes : (w : ℕ) → Low w → w < 256 ^ 8
+    → 4161 * (w / 65536 % 16777216) / 4096 % 64 + 64 * (4161 * (w / 1099511627776) / 4096 % 64) ≡ pack 4 (λ k. byte (2 + k) w) 6
 unfolding pack sum
-six-up w lt =
-    sym (pack-digits 256 6 (w / 65536) (omega arith) (omega (arith, lt)))
-    ∙ pack-ext 256 (λ k. digit 256 k (w / 65536)) (λ k. byte (2 + k) w) 6 (λ k l. byte-high k w)
-    ∙ omega arith
-
-module _ (w : ℕ) (low : Low w) (lt : w < 256 ^ 8) where
-  -- a gate's control bytes leave room above
-  pub controls-small : w / 65536 < 4398046511104
-  unfolding digit
-  controls-small =
-      let last : w / 72057594037927936 % 256 < 4 = low .each 5 (omega arith) in
-      omega (arith, lt, last)
-
-  pub packed-bytes : 4161 * (w / 65536) / 4096 % 64 + 64 * (4161 * (w / 65536) / 68719476736 % 64) ≡ pack 4 (λ k. byte (2 + k) w) 6
-  unfolding pack sum
-  packed-bytes =
-      six-packed (byte 2 w) (byte 3 w) (byte 4 w) (byte 5 w) (byte 6 w) (byte 7 w) (low .each 0 (omega arith)) (low .each 1 (omega arith)) (low .each 2 (omega arith))
-      (low .each 3 (omega arith)) (low .each 4 (omega arith)) (low .each 5 (omega arith)) (w / 65536) (4161 * (w / 65536)) (six-up w lt) refl
+packed-bytes w low lt =
+    let small : (k : ℕ) → k < 6 → byte (2 + k) w < 4 = low .each in
+    let first = three-bytes 2 w (w / 65536) refl in
+    let all : w / 1099511627776 ≡ w / 1099511627776 % 16777216 = omega arith in
+    let second = all ∙ three-bytes 5 w (w / 1099511627776) refl in
+    rw (three-packed (byte 2 w) (byte 3 w) (byte 4 w) _ (small 0 (omega arith)) (small 1 (omega arith)) (small 2 (omega arith)) first, three-packed (byte 5 w) (byte 6 w) (byte 7 w) _ (small 3 (omega arith)) (small 4 (omega arith)) (small 5 (omega arith)) second)
+    (omega arith)
 
 -- ---- which gate a word is, or none
 

@@ -92,13 +92,14 @@ pub fn is_gate(lines: u8, w: u64) -> bool
     w & (0xfcfcfcfcfcfc0000 + bare) == bare
 }
 
-// The control bytes, packed in base 4: 4161 is 4096 and 64 and 1, so that the product has each three side by side.
+// The control bytes, packed in base 4: 4161 is 4096 and 64 and 1, so that the product has three bytes side by side from bit 12 on.
 fn packed_controls(w: u64) -> u64
     requires { ⌜ Low w ⌝ }
     ensures { λ r. ⌜ (r ≡ pack 4 (λ k. byte (2 + k) w) 6) × (r < 4096) ⌝ }
 {
-    let beside = 4161 * (w / 65536);
-    beside / 4096 % 64 + 64 * (beside / 68719476736 % 64)
+    let low = w / 65536 % 16777216;
+    let high = w / 1099511627776;
+    4161 * low / 4096 % 64 + 64 * (4161 * high / 4096 % 64)
 }
 
 // The gate that the word writes down.
