@@ -1,6 +1,6 @@
 -- The lent buffer on the way: it holds the gates of a list, through a gate replaced and the gaps closed, and at the end its bytes are theirs.
 -- A record is looked at byte by byte; that it reads as its gate rests on its being what storing that gate would leave (`standing`). Assumes nothing.
-use mathlib.Core.Path.{_≡_, refl, sym, ap, _∙_, subst}
+use mathlib.Core.Path.{_≡_, refl, sym, ap, _∙_}
 use mathlib.Core.Logic.{⊎-elim}
 use mathlib.Core.Bool.{true, false}
 use mathlib.Core.List.{List, [], _∷_, _++_}
@@ -75,10 +75,6 @@ pub holds-list : (b : List ℕ) (gs : List Gate) (m : ℕ) → Holds b gs → le
 holds-list b gs m w e =
     ext-getD _ (gatesIn b m) gs (length-gates b m ∙ sym e)
     (λ q lt. let l : q < m = rw (length-gates b m) at lt in gate-in b m q l ∙ holds-reads b gs w q (rw e l))
-
--- and what is said of these may be said of those
-pub holds-as : (P : List Gate → Type 0) (b : List ℕ) (gs : List Gate) (m : ℕ) → Holds b gs → length gs ≡ m → P gs → P (gatesIn b m)
-holds-as P b gs m w e x = subst P (sym (holds-list b gs m w e)) x
 
 -- ---- at the start
 

@@ -3,24 +3,22 @@
 use mathlib.Core.Path.{_≡_, refl, sym, ap, ap₂, _∙_}
 use mathlib.Core.Logic.{⊎-elim}
 use mathlib.Core.Bool.{Bool, true, false, cond, not, _&&_}
-use mathlib.Core.List.{List, _++_}
+use mathlib.Core.List.{List}
 use Prim.Native.Nat.{ℕ, zero, suc, _+_, _-_, _*_, _/_, _%_, _^_, _<_, _≤_}
-use native.Mathlib.Nat.{le-trans, mul-le-mul-left}
+use native.Mathlib.Nat.{le-trans, mul-le-mul-left, pow-le-pow-right}
 use native.Mathlib.Decide.{ℕ-discrete}
 use native.Mathlib.Omega.{arith}
 use lib.Bits.{bitAnd, bitOr, and-comm, and-self, and-mask}
-use lib.Dec.{eqb, ltb, leb}
-use lib.ListN.{length, getD, set, drop, length-set, length-append, length-drop}
+use lib.Dec.{eqb, ltb}
+use lib.ListN.{length, getD, set, replicate, length-set, getD-replicate}
 use lib.Seq.{getD-set-same, getD-set-other}
-use borrow.Author.Tests.{eqb-true, eq-eqb, ne-eqb, ltb-true, leb-true, not-true}
-use Rattle.ranges.specs.Ranges.{every, sum, span}
+use borrow.Author.Tests.{eqb-true, eq-eqb, ne-eqb, ltb-true, not-true}
+use Rattle.ranges.specs.Ranges.{every, sum}
 use Rattle.ranges.specs.Lists.{Each}
 use Rattle.ranges.proofs.Bools.{decide, clash}
 use Rattle.ranges.proofs.Tests.{every-below}
 use Rattle.ranges.proofs.Triples.{if-so}
 use Rattle.ranges.proofs.Lists.{each-at}
-use Rattle.ranges.proofs.Spans.{length-span}
-use Rattle.ranges.proofs.Changes.{filled-at}
 use Rattle.ranges.proofs.Counts.{by-place}
 use Rattle.digits.specs.Digits.{digit, pack}
 use Rattle.digits.proofs.Digits.{digit-zero, digit-lt}
@@ -72,7 +70,7 @@ own-lt o = go (eqb o 0) (type-lt o)
 
 other-lt : (o : ℕ) → otherPart o < 256
 unfolding otherPart
-other-lt o = omega (arith, type-lt o)
+other-lt o = omega (arith, own-lt o)
 
 module _ (g : Gate) (ok : IsGate 6 g) where
   line-lt : (k : ℕ) → control g k < 4
@@ -117,27 +115,21 @@ bytes-types (suc a) (suc b) pa la pb lb e =
 bytes-types zero b pa la pb lb e = absurd (omega arith)
 bytes-types (suc a) zero pa la pb lb e = absurd (omega arith)
 
-upset-test : ℕ → ℕ → Bool
-upset-test o c = cond (eqb (bitAnd (upsetters c) (otherPart o)) 0) (not (not (eqb c 3) && upsets o c)) true
+-- f o c is 0 only where operator o does not upset the control c
+upset-by : (f : ℕ → ℕ → ℕ) → every (λ o. every (λ c. cond (eqb (f (suc o) c) 0) (not (not (eqb c 3) && upsets (suc o) c)) true) 0 4) 0 5 ≡ true
+    → (o c : ℕ) → 0 < o → o < 6 → c < 4 → f o c ≡ 0 → (not (eqb c 3) && upsets o c) ≡ false
+upset-by f all (suc o) c po lo lc e =
+    let test : ℕ → ℕ → Bool = λ o c. cond (eqb (f (suc o) c) 0) (not (not (eqb c 3) && upsets (suc o) c)) true in
+    not-true _ (if-so (eqb (f (suc o) c) 0) (not (not (eqb c 3) && upsets (suc o) c)) (every-below (test o) 4 (every-below (λ o. every (test o) 0 4) 5 all o (omega arith)) c lc) (eq-eqb _ _ e))
+upset-by f all zero c po lo lc e = absurd (omega arith)
 
 bytes-upset : (o c : ℕ) → 0 < o → o < 6 → c < 4 → bitAnd (upsetters c) (otherPart o) ≡ 0 → (not (eqb c 3) && upsets o c) ≡ false
-unfolding upset-test every upsetters typeOf otherPart upsets isC
-bytes-upset (suc o) c po lo lc e =
-    not-true _
-    (if-so (eqb (bitAnd (upsetters c) (otherPart (suc o))) 0) (not (not (eqb c 3) && upsets (suc o) c))
-    (every-below (λ c. upset-test (suc o) c) 4 (every-below (λ o. every (λ c. upset-test (suc o) c) 0 4) 5 refl o (omega arith)) c lc) (eq-eqb _ _ e))
-bytes-upset zero c po lo lc e = absurd (omega arith)
-
-back-test : ℕ → ℕ → Bool
-back-test o c = cond (eqb (bitAnd (ownPart o) (16 * upsetters c)) 0) (not (not (eqb c 3) && upsets o c)) true
+unfolding every upsetters typeOf ownPart otherPart upsets isC
+bytes-upset = upset-by (λ o c. bitAnd (upsetters c) (otherPart o)) refl
 
 bytes-back : (o c : ℕ) → 0 < o → o < 6 → c < 4 → bitAnd (ownPart o) (16 * upsetters c) ≡ 0 → (not (eqb c 3) && upsets o c) ≡ false
-unfolding back-test every upsetters typeOf ownPart upsets isC
-bytes-back (suc o) c po lo lc e =
-    not-true _
-    (if-so (eqb (bitAnd (ownPart (suc o)) (16 * upsetters c)) 0) (not (not (eqb c 3) && upsets (suc o) c))
-    (every-below (λ c. back-test (suc o) c) 4 (every-below (λ o. every (λ c. back-test (suc o) c) 0 4) 5 refl o (omega arith)) c lc) (eq-eqb _ _ e))
-bytes-back zero c po lo lc e = absurd (omega arith)
+unfolding every upsetters typeOf ownPart upsets isC
+bytes-back = upset-by (λ o c. bitAnd (ownPart o) (16 * upsetters c)) refl
 
 -- ---- a gate that does not pass
 
@@ -241,38 +233,28 @@ module _ (g h : Gate) (okg : IsGate 6 g) (apart : bitAnd (viewOf h) (againstOf g
         pass = seen-passes g h okg okh apart .1;
       }
 
-  quiet-seen : Stands h → Quiet g h
-  quiet-seen stands =
-      ⊎-elim (λ (e : isGap h ≡ true). rw (stands .blank e) (record { unfit = gap-unfit g okg; pass = gap-passed g okg })) (λ (e : isGap h ≡ false). quiet-there (stands .real e))
-      (decide (isGap h))
+  quiet-seen : Stands h → Quiet g h × (isGap h ≡ false → Quiet h g)
+  quiet-seen stands = (
+    ⊎-elim (λ (e : isGap h ≡ true). rw (stands .blank e) (record { unfit = gap-unfit g okg; pass = gap-passed g okg })) (λ (e : isGap h ≡ false). quiet-there (stands .real e))
+        (decide (isGap h)),
+    λ e. quiet-back (stands .real e),
+  )
 
 -- ---- stretches
 
 pub passed-start : (gs : List Gate) (x : ℕ) → Passed gs x x 0 0
-passed-start gs x = record { quiet = λ g ok a b l c d. absurd (omega arith); back = λ g ok a b l c d. absurd (omega arith) }
+passed-start gs x = record { quiet = λ g ok a b l c d. absurd (omega arith) }
 
 pub passed-next : (gs : List Gate) (x e u v : ℕ) → Each Stands gs → e < length gs → Passed gs x e u v → Passed gs x (e + 1) (bitOr u (viewOf (gate gs e))) (bitOr v (kindOf (gate gs e)))
-passed-next gs x e u v ok lt w =
-    record {
-      quiet = λ g okg a b l c d. go g okg (parts (againstOf g) u (viewOf (gate gs e)) a) (parts (kindOf g) v (kindOf (gate gs e)) b) l c d (ℕ-discrete l e);
-      back = λ g okg a b l c d. turn g okg (parts (againstOf g) u (viewOf (gate gs e)) a) (parts (kindOf g) v (kindOf (gate gs e)) b) l c d (ℕ-discrete l e);
-    }
+passed-next gs x e u v ok lt w = record { quiet = λ g okg a b l c d. go g okg (parts (againstOf g) u (viewOf (gate gs e)) a) (parts (kindOf g) v (kindOf (gate gs e)) b) l c d (ℕ-discrete l e) }
   where
     parts : (x u w : ℕ) → bitAnd x (bitOr u w) ≡ 0 → (bitAnd x u ≡ 0) × (bitAnd w x ≡ 0)
     parts x u w q = let both = or-meets u w x (and-comm (bitOr u w) x ∙ q) in (and-comm x u ∙ both .0, both .1)
 
-    stands : Stands (gate gs e)
-    stands = each-at Stands gs _ ok e lt
-
     go : (g : Gate) → IsGate 6 g → (bitAnd (againstOf g) u ≡ 0) × (bitAnd (viewOf (gate gs e)) (againstOf g) ≡ 0) → (bitAnd (kindOf g) v ≡ 0) × (bitAnd (kindOf (gate gs e)) (kindOf g) ≡ 0)
-        → (l : ℕ) → x ≤ l → l < e + 1 → Dec (l ≡ e) → Quiet g (gate gs l)
-    go g okg a b l c d (yes q) = rw q (quiet-seen g (gate gs e) okg (a .1) (b .1) stands)
+        → (l : ℕ) → x ≤ l → l < e + 1 → Dec (l ≡ e) → Quiet g (gate gs l) × (isGap (gate gs l) ≡ false → Quiet (gate gs l) g)
+    go g okg a b l c d (yes q) = rw q (quiet-seen g (gate gs e) okg (a .1) (b .1) (each-at Stands gs _ ok e lt))
     go g okg a b l c d (no ne) = w .quiet g okg (a .0) (b .0) l c (omega arith)
-
-    turn : (g : Gate) → IsGate 6 g → (bitAnd (againstOf g) u ≡ 0) × (bitAnd (viewOf (gate gs e)) (againstOf g) ≡ 0) → (bitAnd (kindOf g) v ≡ 0) × (bitAnd (kindOf (gate gs e)) (kindOf g) ≡ 0)
-        → (l : ℕ) → x ≤ l → l < e + 1 → Dec (l ≡ e) → isGap (gate gs l) ≡ false → Quiet (gate gs l) g
-    turn g okg a b l c d (yes q) real = rw q (quiet-back g (gate gs e) okg (a .1) (b .1) (stands .real (rw q at real)))
-    turn g okg a b l c d (no ne) real = w .back g okg (a .0) (b .0) l c (omega arith) real
 
 -- the gates of a stretch are quiet with what meets nothing of it, and with a gap
 pub quiet-rows : (gs : List Gate) (x e u v : ℕ) (g : Gate) (sets kind : ℕ) → Passed gs x e u v → Each Stands gs → Stands g → Seen g sets kind → bitAnd sets u ≡ 0 → bitAnd kind v ≡ 0
@@ -280,25 +262,20 @@ pub quiet-rows : (gs : List Gate) (x e u v : ℕ) (g : Gate) (sets kind : ℕ) �
 quiet-rows gs x e u v g sets kind w ok stands seen a b l c d inside real =
     let okl : IsGate 6 (gate gs l) = each-at Stands gs _ ok l inside .real real in
     ⊎-elim (λ (q : isGap g ≡ true). rw (stands .blank q) (record { unfit = gap-unfit (gate gs l) okl; pass = gap-passed (gate gs l) okl }))
-    (λ (q : isGap g ≡ false). w .back g (stands .real q) (rw (← seen q .0) a) (rw (← seen q .1) b) l c d real) (decide (isGap g))
+    (λ (q : isGap g ≡ false). w .quiet g (stands .real q) (rw (← seen q .0) a) (rw (← seen q .1) b) l c d .1 real) (decide (isGap g))
 
 -- every gate is of a kind, so that nothing is said where all kinds are there
 some-rest : (n : ℕ) → 0 < n → n < 18446744073709551616 → n % 18446744073709551616 ≡ 0 → ⊥
 some-rest n pos lt e = omega arith
 
 pub passed-all : (gs : List Gate) (x e u : ℕ) → Passed gs x e u allKinds
-passed-all gs x e u =
-    record {
-      quiet = λ g ok a b l c d. absurd (some-rest (kindOf g) (kind-some g ok .0) (kind-some g ok .1) (sym (and-mask (kindOf g) 64) ∙ b));
-      back = λ g ok a b l c d. absurd (some-rest (kindOf g) (kind-some g ok .0) (kind-some g ok .1) (sym (and-mask (kindOf g) 64) ∙ b));
-    }
+passed-all gs x e u = record { quiet = λ g ok a b l c d. absurd (some-rest (kindOf g) (kind-some g ok .0) (kind-some g ok .1) (sym (and-mask (kindOf g) 64) ∙ b)) }
 
-pub marked-start : (gs : List Gate) (marks : List ℕ) (n : ℕ) → length gs ≤ 8 * n → length gs + 16 ≤ 8 * length marks
-    → Marked gs (span (λ k. allKinds) 0 n ++ drop n marks)
-marked-start gs marks n le room =
+pub marked-start : (gs : List Gate) (marks : List ℕ) → length gs + 16 ≤ 8 * length marks → marks ≡ replicate (length marks) allKinds → Marked gs marks
+marked-start gs marks room e =
     record {
-      room = omega (arith, length-append {A = ℕ} (span (λ k. allKinds) 0 n) (drop n marks), length-span {A = ℕ} (λ k. allKinds) 0 n, length-drop n marks);
-      each = λ s l. rw (filled-at {A = ℕ} (λ k. allKinds) marks n (2 * s + 1) 0 (omega arith)) (passed-all gs (16 * s) (16 * s + 16) _);
+      room = room;
+      each = λ s l. rw (ap (λ (t : List ℕ). getD t (2 * s + 1) 0) e ∙ getD-replicate (length marks) (2 * s + 1) allKinds 0 (omega arith)) (passed-all gs (16 * s) (16 * s + 16) _);
     }
 
 -- gate p is replaced, and its stretch forgotten
@@ -315,10 +292,7 @@ marked-set gs marks p g lt w =
         rw (e, getD-set-same marks (2 * (p / 16) + 1) allKinds 0 (omega (arith, w .room))) (passed-all (set gs p g) (16 * (p / 16)) (16 * (p / 16) + 16) _)
     go s l (no ne) =
         rw (getD-set-other marks (2 * (p / 16) + 1) (2 * s) allKinds 0 (λ e. omega arith), getD-set-other marks (2 * (p / 16) + 1) (2 * s + 1) allKinds 0 (λ e. ne (omega arith)))
-        (record {
-          quiet = λ h ok a b k c d. rw (getD-set-other gs p k g _ (λ e. ne (omega arith))) (w .each s l .quiet h ok a b k c d);
-          back = λ h ok a b k c d. rw (getD-set-other gs p k g _ (λ e. ne (omega arith))) (w .each s l .back h ok a b k c d);
-        })
+        (record { quiet = λ h ok a b k c d. rw (getD-set-other gs p k g _ (λ e. ne (omega arith))) (w .each s l .quiet h ok a b k c d) })
 
 -- stretch s is looked at
 pub marked-look : (gs : List Gate) (marks : List ℕ) (s u v : ℕ) → 16 * s + 16 ≤ length gs → Marked gs marks → Passed gs (16 * s) (16 * s + 16) u v
@@ -347,7 +321,7 @@ clear-stretch gs i s u v w inside ok here a b =
     record {
       order = omega (arith, w .order);
       inside = omega arith;
-      quiet = λ l c d. by-place (Quiet (gate gs i) (gate gs l)) (16 * s) l (λ e. w .quiet l c e) (λ e. here .quiet (gate gs i) ok a b l e (omega arith));
+      quiet = λ l c d. by-place (Quiet (gate gs i) (gate gs l)) (16 * s) l (λ e. w .quiet l c e) (λ e. here .quiet (gate gs i) ok a b l e (omega arith) .0);
     }
 
 -- ---- what the code computes from a record's word
@@ -405,9 +379,5 @@ module _ (w : ℕ) (small : w < 256 ^ 8) (low : Low w) where
   against-word = ap₂ (λ (o t : ℕ). 16 * shunned (gateOf w) + otherPart o * 256 ^ t) (sym (operator-word w)) (sym (target-word w))
 
 -- a byte at the place of a line, or of a gap's target
-weight-most : (t : ℕ) → t ≤ 6 → 256 ^ t ≤ 281474976710656
-unfolding every
-weight-most t le = leb-true _ _ (every-below (λ t. leb (256 ^ t) 281474976710656) 7 refl t (omega arith))
-
 pub part-most : (d w : ℕ) → d < 256 → byte 1 w ≤ 6 → d * 256 ^ (w / 256 % 256) ≤ 71776119061217280
-part-most d w lt le = le-trans (mul-le-mul-left d (weight-most (w / 256 % 256) (rw (← byte-one w) le))) (omega arith)
+part-most d w lt le = le-trans (mul-le-mul-left d (pow-le-pow-right {n = 256} (omega arith) {i = w / 256 % 256} {j = 6} (rw (← byte-one w) le))) (omega arith)

@@ -55,7 +55,7 @@ viewOf g = shunned g + ownPart (g .operator) * 256 ^ g .target
 
 -- the same with the halves of each byte exchanged: what a view must not meet
 unfoldable pub otherPart : ℕ → ℕ
-otherPart o = typeOf o + 16 * allBut (typeOf o)
+otherPart o = 16 * (ownPart o % 16) + ownPart o / 16
 
 unfoldable pub againstOf : Gate → ℕ
 againstOf g = 16 * shunned g + otherPart (g .operator) * 256 ^ g .target
@@ -79,8 +79,7 @@ Seen g sets kind = isGap g ≡ false → (sets ≡ againstOf g) × (kind ≡ kin
 
 -- a gate that meets nothing of the sets u and v is quiet with the gates from x to e, and these with it
 pub record Passed (gs : List Gate) (x e u v : ℕ) : Type 0 where
-  pub quiet : (g : Gate) → IsGate 6 g → bitAnd (againstOf g) u ≡ 0 → bitAnd (kindOf g) v ≡ 0 → (l : ℕ) → x ≤ l → l < e → Quiet g (gate gs l)
-  pub back : (g : Gate) → IsGate 6 g → bitAnd (againstOf g) u ≡ 0 → bitAnd (kindOf g) v ≡ 0 → (l : ℕ) → x ≤ l → l < e → isGap (gate gs l) ≡ false → Quiet (gate gs l) g
+  pub quiet : (g : Gate) → IsGate 6 g → bitAnd (againstOf g) u ≡ 0 → bitAnd (kindOf g) v ≡ 0 → (l : ℕ) → x ≤ l → l < e → Quiet g (gate gs l) × (isGap (gate gs l) ≡ false → Quiet (gate gs l) g)
 
 -- two sets for each stretch of sixteen places
 pub record Marked (gs : List Gate) (marks : List ℕ) : Type 0 where

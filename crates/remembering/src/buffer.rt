@@ -1,19 +1,9 @@
-// The lent buffer: one gate read, the gaps closed, and freed records cleared.
+// The lent buffer: the gaps closed, and freed records cleared.
 ghost use mathlib.Core.Path.{_≡_};
 ghost use mathlib.Core.List.{_++_};
 ghost use Prim.Native.Nat.{_+_, _-_, _*_, _≤_, _<_};
 ghost use lib.ListN.{length, take, replicate};
-ghost use Rattle.rules.specs.Tidying.{gate};
 ghost use Rattle.remembering.specs.Buffers.{gatesIn, Holds, kept, Moved, Kept};
-use gates::Gate;
-
-// Gate i of m. The records were checked, so it is read without a test.
-pub fn read_gate(b: &[u8], m: usize, i: usize) -> Gate
-    requires { ⌜ Holds (now b) (gatesIn (now b) m) × (i < m) ⌝ }
-    ensures { λ r. ⌜ r ≡ gate (gatesIn (now (b .entry)) m) i ⌝ }
-{
-    gates::words::gate_of(super::views::word(b, m, i))
-}
 
 // Record p comes to stand at place q, which lies before it or is its own.
 fn move_record(b: &mut [u8], p: usize, q: usize)

@@ -1,4 +1,4 @@
-// What the search remembers: far[r] says how far row r is known to be clear, with 16384 added where it is known to have no pair; that alone stands
+// What the search remembers: far[r] says how far row r is known to be clear, with SETTLED added where it is known to have no pair; that alone stands
 // where a gate has gone. reach[s] bounds this for the sixteen rows of stretch s, so that the rows that reach a changed gate are found 256 at a time.
 ghost use mathlib.Core.Path.{_≡_};
 ghost use mathlib.Core.Bool.{true, cond};
@@ -9,7 +9,11 @@ ghost use Rattle.ranges.specs.Ranges.{span};
 ghost use Rattle.remembering.specs.Buffers.{gatesIn, isGap, Stands, Holds};
 ghost use Rattle.remembering.specs.Rows.{Row, Known, Low, Reached, Again};
 ghost use Rattle.remembering.specs.Views.{Seen, Marked};
+use super::views::Stretch;
 use gates::Gate;
+
+// More than any place, and its own bit: a row with this has no pair.
+pub const SETTLED: u16 = 16384;
 
 // Each of m rows is clear up to the gate behind its own.
 pub fn start_rows(far: &mut [u16], m: usize)
@@ -57,7 +61,7 @@ fn furthest(far: &[u16], s: usize) -> u16
     let mut most: u16 = 0;
     let mut k: usize = 0;
     while k < 16 {
-        most = larger(most, far[s + k] % 16384);
+        most = larger(most, far[s + k] % SETTLED);
         k = k + 1;
     }
     most
@@ -85,7 +89,7 @@ fn settled_run(far: &[u16], m: usize, r: usize) -> usize
     if m < r + 16 {
         return 1;
     }
-    if smallest(far, r) < 16384 {
+    if smallest(far, r) < SETTLED {
         return 1;
     }
     16
@@ -98,7 +102,7 @@ pub fn next_row(far: &[u16], m: usize, i: usize) -> usize
 {
     let mut r = i;
     while r < m {
-        if far[r] < 16384 {
+        if far[r] < SETTLED {
             return r;
         }
         r = r + settled_run(far, m, r);
@@ -112,7 +116,7 @@ fn look_again(b: &[u8], m: usize, p: usize, g: Gate, r: usize, n: u16) -> u16
     requires { ⌜ (r < p) × (p < m) × (m ≤ 8000) × Stands g × Row (gatesIn (now b) m) r n ⌝ }
     ensures { λ d. ⌜ Row (set (gatesIn (now (b .entry)) m) p g) r d ⌝ }
 {
-    let c = (n % 16384) as usize;
+    let c = (n % SETTLED) as usize;
     if c < p {
         return n;
     }
@@ -137,7 +141,7 @@ fn lower_row(low: usize, r: usize, n: u16) -> usize
     if low <= r {
         return low;
     }
-    if n < 16384 { r } else { low }
+    if n < SETTLED { r } else { low }
 }
 
 // The stretch of row r reaches up to place n.
@@ -146,7 +150,7 @@ pub fn raise_reach(far: &[u16], reach: &mut [u16], m: usize, r: usize, n: u16)
     requires { ⌜ ((q : ℕ) → q < m → (q ≡ r → ⊥) → getD (now far) q 0 % 16384 ≤ getD (now reach) (q / 16) 0 % 16384) ⌝ }
     ensures { λ _. ⌜ Reached (now (far .entry)) (now (reach .exit)) m ⌝ }
 {
-    if n <= reach[r / 16] % 16384 {
+    if n <= reach[r / 16] % SETTLED {
         return;
     }
     reach[r / 16] = n;
@@ -192,7 +196,7 @@ fn stride_end(x: usize, p: usize) -> usize
 fn count_row(n: u16, p: usize) -> usize
     ensures { λ r. ⌜ (r ≤ 1) × (r ≡ 0 → n % 16384 ≡ p → ⊥) ⌝ }
 {
-    if (n % 16384) as usize == p { 1 } else { 0 }
+    if (n % SETTLED) as usize == p { 1 } else { 0 }
 }
 
 // How many of the sixteen rows from x on are clear up to p.
@@ -209,7 +213,7 @@ fn count_rows(far: &[u16], x: usize, p: usize) -> usize
     count
 }
 
-// No row of stretch s is to be looked at again: none ends at gate p, and all pass what it is to become, of which sets and kind tell. What is known of a
+// No row of stretch s is to be looked at again: none ends at gate p, and all pass what it is to become, of which seen tells. What is known of a
 // stretch that may change soon is not worth the making.
 fn stretch_stays(
     b: &[u8],
@@ -218,13 +222,12 @@ fn stretch_stays(
     m: usize,
     p: usize,
     g: Gate,
-    sets: u64,
-    kind: u64,
+    seen: Stretch,
     s: usize,
     from: usize,
 ) -> bool
     requires { ⌜ Holds (now b) (gatesIn (now b) m) × Marked (gatesIn (now b) m) (now marks) ⌝ }
-    requires { ⌜ (16 * s < p) × (from ≤ p) × (p < m) × (m ≤ 8000) × (m + 16 ≤ length (now far)) × Stands g × Seen g sets kind ⌝ }
+    requires { ⌜ (16 * s < p) × (from ≤ p) × (p < m) × (m ≤ 8000) × (m + 16 ≤ length (now far)) × Stands g × Seen g (seen .sets) (seen .kinds) ⌝ }
     requires { ⌜ ((r : ℕ) → 16 * s ≤ r → r < p → Row (gatesIn (now b) m) r (getD (now far) r 0)) ⌝ }
     ensures { λ _. ⌜ Marked (gatesIn (now (b .entry)) m) (now (marks .exit)) ⌝ }
     ensures { λ r. ⌜ (r ≡ true → Again (gatesIn (now (b .entry)) m) p g (now (far .entry)) (now (far .entry)) (16 * s) (16 * s + 16)) ⌝ }
@@ -233,7 +236,7 @@ fn stretch_stays(
         return false;
     }
     super::views::mark_stretch(b, marks, m, s);
-    if !super::views::meets_none(marks, s, sets, kind) {
+    if !super::views::meets_none(marks, s, seen.sets, seen.kinds) {
         return false;
     }
     count_rows(far, 16 * s, p) == 0
@@ -248,21 +251,20 @@ fn look_stretch(
     m: usize,
     p: usize,
     g: Gate,
-    sets: u64,
-    kind: u64,
+    seen: Stretch,
     s: usize,
     from: usize,
 ) -> usize
     requires { ⌜ Holds (now b) (gatesIn (now b) m) × Marked (gatesIn (now b) m) (now marks) ⌝ }
-    requires { ⌜ (16 * s < p) × (from ≤ p) × (p < m) × (m ≤ 8000) × (m + 16 ≤ length (now far)) × Stands g × Seen g sets kind × Low (now far) from × Reached (now far) (now reach) m ⌝ }
+    requires { ⌜ (16 * s < p) × (from ≤ p) × (p < m) × (m ≤ 8000) × (m + 16 ≤ length (now far)) × Stands g × Seen g (seen .sets) (seen .kinds) × Low (now far) from × Reached (now far) (now reach) m ⌝ }
     requires { ⌜ ((r : ℕ) → 16 * s ≤ r → r < p → Row (gatesIn (now b) m) r (getD (now far) r 0)) ⌝ }
     ensures { λ _. ⌜ Again (gatesIn (now (b .entry)) m) p g (now (far .entry)) (now (far .exit)) (16 * s) (16 * s + 16) × Marked (gatesIn (now (b .entry)) m) (now (marks .exit)) ⌝ }
     ensures { λ q. ⌜ (q ≤ from) × Low (now (far .exit)) q × Reached (now (far .exit)) (now (reach .exit)) m ⌝ }
 {
-    if ((reach[s] % 16384) as usize) < p {
+    if ((reach[s] % SETTLED) as usize) < p {
         return from;
     }
-    if stretch_stays(b, far, marks, m, p, g, sets, kind, s, from) {
+    if stretch_stays(b, far, marks, m, p, g, seen, s, from) {
         return from;
     }
     let low = look_from(b, far, m, p, g, 16 * s, stride_end(16 * s, p), from);
@@ -279,14 +281,13 @@ fn look_stretches(
     m: usize,
     p: usize,
     g: Gate,
-    sets: u64,
-    kind: u64,
+    seen: Stretch,
     x: usize,
     e: usize,
     from: usize,
 ) -> usize
     requires { ⌜ Holds (now b) (gatesIn (now b) m) × Marked (gatesIn (now b) m) (now marks) ⌝ }
-    requires { ⌜ (x < e) × (e ≤ x + 16) × (16 * e < p + 16) × (p < m) × (m ≤ 8000) × (m + 16 ≤ length (now far)) × Stands g × Low (now far) from × Reached (now far) (now reach) m × Seen g sets kind × (from ≤ p) ⌝ }
+    requires { ⌜ (x < e) × (e ≤ x + 16) × (16 * e < p + 16) × (p < m) × (m ≤ 8000) × (m + 16 ≤ length (now far)) × Stands g × Low (now far) from × Reached (now far) (now reach) m × Seen g (seen .sets) (seen .kinds) × (from ≤ p) ⌝ }
     requires { ⌜ ((r : ℕ) → 16 * x ≤ r → r < p → Row (gatesIn (now b) m) r (getD (now far) r 0)) ⌝ }
     ensures { λ _. ⌜ Again (gatesIn (now (b .entry)) m) p g (now (far .entry)) (now (far .exit)) (16 * x) (16 * e) × Marked (gatesIn (now (b .entry)) m) (now (marks .exit)) ⌝ }
     ensures { λ q. ⌜ (q ≤ from) × Low (now (far .exit)) q × Reached (now (far .exit)) (now (reach .exit)) m ⌝ }
@@ -297,7 +298,7 @@ fn look_stretches(
     let mut low = from;
     let mut s = x;
     while s < e {
-        low = look_stretch(b, far, reach, marks, m, p, g, sets, kind, s, low);
+        low = look_stretch(b, far, reach, marks, m, p, g, seen, s, low);
         s = s + 1;
     }
     low
@@ -321,7 +322,7 @@ fn own_row(p: usize, g: Gate) -> u16
     ensures { λ n. ⌜ n ≡ cond (isGap g) 16384 (p + 1) ⌝ }
 {
     if g.operator == 0 {
-        return 16384;
+        return SETTLED;
     }
     (p + 1) as u16
 }
@@ -347,20 +348,7 @@ pub fn settle_rows(
     let mut x: usize = 0;
     while 16 * x < p {
         let e = stretches_end(x, p);
-        low = look_stretches(
-            b,
-            far,
-            reach,
-            marks,
-            m,
-            p,
-            g,
-            seen.sets,
-            seen.kinds,
-            x,
-            e,
-            low,
-        );
+        low = look_stretches(b, far, reach, marks, m, p, g, seen, x, e, low);
         x = e;
     }
     far[p] = own_row(p, g);

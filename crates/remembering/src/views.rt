@@ -1,11 +1,9 @@
 // A gate as the others see it, in two numbers, and the same of sixteen gates at once: a row passes sixteen places by one test.
 ghost use mathlib.Core.Path.{_≡_};
 ghost use mathlib.Core.Bool.{true, false};
-ghost use mathlib.Core.List.{_++_};
 ghost use Prim.Native.Nat.{_+_, _*_, _^_, _≤_, _<_};
 ghost use lib.Bits.{bitAnd};
-ghost use lib.ListN.{length, getD, set, drop};
-ghost use Rattle.ranges.specs.Ranges.{span};
+ghost use lib.ListN.{length, getD, set};
 ghost use Rattle.gates.specs.Words.{gateOf};
 ghost use Rattle.rules.specs.Tidying.{gate};
 ghost use Rattle.rules.specs.Words.{Written};
@@ -15,7 +13,7 @@ ghost use Rattle.remembering.specs.Views.{shunned, ownPart, viewOf, othe
 use gates::Gate;
 
 // Of a stretch of which nothing is known.
-const ALL: u64 = 0xffffffffffffffff;
+pub const ALL: u64 = 0xffffffffffffffff;
 
 // For each line the types that upset the gate's control there: a control of 0, 1 or 2 comes to 11, 14 or 13, and none to 0.
 fn shun(w: u64) -> u64
@@ -27,31 +25,25 @@ fn shun(w: u64) -> u64
         - 0x010101010101
 }
 
-// The byte of a view on the gate's target: its own type in the high half, and all types but this in the low half.
+// Byte o, counted from the low end, is what a gate with operator o has in its view on its target: its own type in the high half, and all types but this
+// in the low half. Types are bits, N 1, E 2, D 4 and C 8; a gap has none.
+const PARTS: u64 = 0x2d4b1e878700;
+
+// The byte of a view on the gate's target.
 fn own_part(o: u64) -> u64
+    requires { ⌜ o < 6 ⌝ }
     ensures { λ r. ⌜ (r ≡ ownPart o) × (r < 256) ⌝ }
 {
-    match o {
-        0 => 0,
-        1 => 0x87,
-        2 => 0x87,
-        3 => 0x1e,
-        4 => 0x4b,
-        _ => 0x2d,
-    }
+    (PARTS >> (8 * o)) % 256
 }
 
 // The byte that a view must not meet there: the halves are exchanged.
 fn other_part(o: u64) -> u64
+    requires { ⌜ o < 6 ⌝ }
     ensures { λ r. ⌜ (r ≡ otherPart o) × (r < 256) ⌝ }
 {
-    match o {
-        1 => 0x78,
-        2 => 0x78,
-        3 => 0xe1,
-        4 => 0xb4,
-        _ => 0xd2,
-    }
+    let own = own_part(o);
+    16 * (own % 16) + own / 16
 }
 
 // What a gate is for others, and what it cannot pass.
@@ -146,18 +138,6 @@ pub fn mark_stretch(b: &[u8], marks: &mut [u64], m: usize, s: usize)
     let here = stretch_of(b, m, 16 * s);
     marks[2 * s] = here.sets;
     marks[2 * s + 1] = here.kinds;
-}
-
-// Of n / 2 stretches nothing is known.
-pub fn start_marks(marks: &mut [u64], n: usize)
-    requires { ⌜ (n ≤ 1000) × (n ≤ length (now marks)) ⌝ }
-    ensures { λ _. ⌜ now (marks .exit) ≡ span (λ k. allKinds) 0 n ++ drop n (now (marks .entry)) ⌝ }
-{
-    let mut k: usize = 0;
-    while k < n {
-        marks[k] = ALL;
-        k = k + 1;
-    }
 }
 
 // Stretch s is not known.

@@ -230,25 +230,6 @@ module _ (gs : List Gate) (i j : ℕ) (ij : i < j) (inside : j < length gs) wher
           made (loosened g h ∷ []) (retuned g h ∷ []) (reduce t) _
           (ap (λ (l : List Gate). set (set l i (loosened g h)) j (retuned g h)) whole ∙ both-set before between behind g h (loosened g h) (retuned g h) i j at-i at-j)
 
--- which rule it is
-module _ (gs : List Gate) (i j : ℕ) where
-  pub ruled-cancel : cancels (gate gs i) (gate gs j) ≡ true → ruled gs i j ≡ without (without gs j) i
-  unfolding ruled
-  ruled-cancel e = rw e
-
-  pub ruled-merge : cancels (gate gs i) (gate gs j) ≡ false → merges (gate gs i) (gate gs j) ≡ true → ruled gs i j ≡ without (set gs j (inverse (gate gs j))) i
-  unfolding ruled
-  ruled-merge e f = rw (e, f)
-
-  pub ruled-reduce : cancels (gate gs i) (gate gs j) ≡ false → merges (gate gs i) (gate gs j) ≡ false
-      → ruled gs i j ≡ set (set gs i (loosened (gate gs i) (gate gs j))) j (retuned (gate gs i) (gate gs j))
-  unfolding ruled
-  ruled-reduce e f = rw (e, f)
-
-pub last-rule : (g h : Gate) → fits g h ≡ true → cancels g h ≡ false → merges g h ≡ false → reduces g h ≡ true
-unfolding fits
-last-rule g h t e f = rw (e, f) at t
-
 -- the first pair of a list that has one
 pub record FirstPair (gs : List Gate) (i j : ℕ) : Type 0 where
   pub order : i < j

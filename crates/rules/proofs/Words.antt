@@ -13,19 +13,23 @@ use Rattle.ranges.proofs.Triples.{beq-same}
 use Rattle.ranges.proofs.Sums.{sum-ext, sum-le}
 use Rattle.ranges.proofs.Counts.{by-place}
 use Rattle.digits.specs.Digits.{digit}
-use Rattle.digits.proofs.Digits.{digit-high}
+use Rattle.digits.proofs.Digits.{digit-zero, digit-high}
 use Rattle.digits.proofs.Packs.{pack-ext, pack-lt}
 use Rattle.digits.proofs.Bits.{bytes-sum}
 use Rattle.gates.specs.Gates.{control}
 use Rattle.gates.specs.Words.{byte, gateOf, Low, controlMarks, otherMarks}
-use Rattle.gates.proofs.Bytes.{byte-high}
+use Rattle.gates.proofs.Bytes.{byte-high, operator-word}
 use Rattle.gates.proofs.Marks.{control-mark, control-word}
-use Rattle.rules.specs.Rules.{differAt, differences}
-use Rattle.rules.specs.Words.{Written}
+use Rattle.rules.specs.Rules.{sameLines, differAt, differences}
+use Rattle.rules.specs.Words.{Written, ruleFor, ruleBy}
+use Rattle.rules.proofs.Pairs.{rule-lines}
 
--- ---- a control
+-- ---- the operator, and a control
 
-packed : (w : ℕ) → Written w → gateOf w .controls < 4 ^ 6
+pub operator-lt : (w : ℕ) → Written w → w % 256 < 6
+operator-lt w ok = rw (← digit-zero 256 w) (omega (arith, ok .op-high))
+
+pub packed : (w : ℕ) → Written w → gateOf w .controls < 4 ^ 6
 unfolding gateOf
 packed w ok = pack-lt 4 (λ k. byte (2 + k) w) 6 (ok .lines .each)
 
@@ -83,9 +87,13 @@ module _ (g h : ℕ) (low-g : Low g) (low-h : Low h) where
       one-most false = omega arith
 
   -- modulo 255 each byte has the weight 1
-  pub apart-counted : otherMarks g (h / 65536) % 255 ≡ differences (gateOf g) (gateOf h)
+  apart-counted : otherMarks g (h / 65536) % 255 ≡ differences (gateOf g) (gateOf h)
   unfolding differences differAt other
   apart-counted =
       others-summed
       ∙ sum-ext other (λ k. cond (not (eqb (control (gateOf g) k) (control (gateOf h) k))) 1 0) 0 6
       (λ k le l. rw (control-word g low-g k l, control-word h low-h k l, byte-high k h) (flipped (eqb (byte (2 + k) g) (byte (2 + k) h))))
+
+  -- the rule, by what the code reads off the numbers
+  pub rule-counted : sameLines (gateOf g) (gateOf h) ≡ true → ruleBy (g % 256) (h % 256) (otherMarks g (h / 65536) % 255) ≡ ruleFor (gateOf g) (gateOf h)
+  rule-counted e = rw (rule-lines (gateOf g) (gateOf h), e, ← apart-counted, operator-word g, operator-word h)

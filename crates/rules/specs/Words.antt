@@ -1,6 +1,13 @@
--- A gate as the number that its record is: cited by the contracts of inner functions alone.
+-- What the contracts of inner functions alone cite: a gate as the number that its record is, and the rule that fits a pair.
 use Prim.Native.Nat.{ℕ, _^_, _<_, _≤_}
+use mathlib.Core.Bool.{cond, _&&_}
+use lib.Dec.{eqb}
+use Rattle.gates.specs.declared.Gate.{Gate}
+use Rattle.gates.specs.Gates.{inverseOp}
 use Rattle.gates.specs.Words.{byte, Low}
+use Rattle.rules.specs.declared.fitting.Rule.{Rule}
+use Rattle.rules.specs.Places.{isC}
+use Rattle.rules.specs.Rules.{cancels, merges, reduces}
 
 -- the number that the record of a gate is, or of what stands where a gate has gone: operator 0 on line 6
 pub record Written (w : ℕ) : Type 0 where
@@ -8,3 +15,14 @@ pub record Written (w : ℕ) : Type 0 where
   pub lines : Low w
   pub op-high : byte 0 w ≤ 5
   pub on-line : byte 1 w ≤ 6
+
+-- the rule that fits
+unfoldable pub ruleFor : Gate → Gate → Rule
+ruleFor g h = cond (cancels g h) Rule.Cancel (cond (merges g h) Rule.Merge (cond (reduces g h) Rule.Reduce Rule.Nothing))
+
+-- the same of two gates with equal target and equal set of control lines, by their operators and the number of lines on which their controls differ
+unfoldable pub ruleBy : ℕ → ℕ → ℕ → Rule
+ruleBy a b apart =
+    cond (eqb apart 0 && eqb b (inverseOp a)) Rule.Cancel
+    (cond (eqb apart 0 && isC a && eqb a b) Rule.Merge
+    (cond (eqb apart 1 && eqb a b) Rule.Reduce Rule.Nothing))

@@ -1,56 +1,28 @@
-// The rules on two gates: which fits, and what control reduction makes of each.
+// The rules on a pair of gates: which fits, and what control reduction makes of each.
 ghost use mathlib.Core.Path.{_≡_};
-ghost use mathlib.Core.Bool.{true, false};
+ghost use mathlib.Core.Bool.{true, false, not};
 ghost use Prim.Native.Nat.{_^_, _<_};
+ghost use lib.Dec.{eqb};
+ghost use Rattle.ranges.specs.Ranges.{first};
+ghost use Rattle.digits.specs.Digits.{digit};
 ghost use Rattle.gates.specs.Gates.{inverse};
 ghost use Rattle.gates.specs.Words.{gateOf};
-ghost use Rattle.rules.specs.Rules.{sameLines, differences, cancels, merges, reduces, fits, loosened, retuned};
-ghost use Rattle.rules.specs.Words.{Written};
+ghost use Rattle.rules.specs.Rules.{reduces, fits, loosened, retuned};
+ghost use Rattle.rules.specs.Words.{Written, ruleFor, ruleBy};
 use gates::Gate;
 
-// Equal target, and equal set of control lines.
-fn same_lines(g: Gate, h: Gate) -> bool
-    ensures { λ r. ⌜ r ≡ sameLines g h ⌝ }
-{
-    if g.target != h.target {
-        return false;
-    }
-    super::controls::same_set(g.controls, h.controls)
+// The rules by name.
+pub enum Rule {
+    Cancel,
+    Merge,
+    Reduce,
+    Nothing,
 }
 
-// Equal control values, and the operators invert each other.
-pub fn cancels_pair(g: Gate, h: Gate) -> bool
-    ensures { λ r. ⌜ r ≡ cancels g h ⌝ }
-{
-    if !same_lines(g, h) {
-        return false;
-    }
-    if super::controls::count_differences(g.controls, h.controls) != 0 {
-        return false;
-    }
-    h.operator == gates::invert_op(g.operator)
-}
-
-// Equal control values, both C1 or both C2.
-pub fn merges_pair(g: Gate, h: Gate) -> bool
-    ensures { λ r. ⌜ r ≡ merges g h ⌝ }
-{
-    if !same_lines(g, h) {
-        return false;
-    }
-    if super::controls::count_differences(g.controls, h.controls) != 0 {
-        return false;
-    }
-    if !super::passing::is_c(g.operator) {
-        return false;
-    }
-    g.operator == h.operator
-}
-
-// One target, and operators that a rule takes: few pairs of gates get past this, and only these are compared line by line.
+// One target, and operators that a rule takes.
 fn may_fit(g: u64, h: u64) -> bool
     requires { ⌜ Written g × Written h ⌝ }
-    ensures { λ r. ⌜ (r ≡ false → fits (gateOf g) (gateOf h) ≡ false) ⌝ }
+    ensures { λ r. ⌜ (r ≡ true → gateOf g .target ≡ gateOf h .target) × (r ≡ false → ruleFor (gateOf g) (gateOf h) ≡ Rule.Nothing) ⌝ }
 {
     if g / 256 % 256 != h / 256 % 256 {
         return false;
@@ -61,49 +33,42 @@ fn may_fit(g: u64, h: u64) -> bool
     (h % 256) as u8 == gates::invert_op((g % 256) as u8)
 }
 
-// On how many lines the controls differ.
-fn count_apart(g: u64, h: u64) -> u64
-    requires { ⌜ Written g × Written h ⌝ }
-    ensures { λ r. ⌜ r ≡ differences (gateOf g) (gateOf h) ⌝ }
+// The rule for the operators a and b of gates with one target and the same control lines, whose control values differ on so many lines.
+fn rule_by(a: u8, b: u8, apart: u64) -> Rule
+    ensures { λ r. ⌜ r ≡ ruleBy a b apart ⌝ }
 {
-    gates::words::mark_others(g, h / 65536) % 255
-}
-
-// Equal target, and equal set of control lines, of all lines at once.
-fn share_lines(g: u64, h: u64) -> bool
-    requires { ⌜ Written g × Written h ⌝ }
-    ensures { λ r. ⌜ r ≡ sameLines (gateOf g) (gateOf h) ⌝ }
-{
-    if g / 256 % 256 != h / 256 % 256 {
-        return false;
-    }
-    gates::words::mark_controls(g) == gates::words::mark_controls(h)
-}
-
-// A rule fits: the lines are compared once for all three.
-fn fits_closely(g: u64, h: u64) -> bool
-    requires { ⌜ Written g × Written h ⌝ }
-    ensures { λ r. ⌜ r ≡ fits (gateOf g) (gateOf h) ⌝ }
-{
-    if !share_lines(g, h) {
-        return false;
-    }
-    let apart = count_apart(g, h);
-    let first = (g % 256) as u8;
-    let second = (h % 256) as u8;
     if apart == 0 {
-        if second == gates::invert_op(first) {
-            return true;
+        if b == gates::invert_op(a) {
+            return Rule::Cancel;
         }
-        if !super::passing::is_c(first) {
-            return false;
+        if !super::passing::is_c(a) {
+            return Rule::Nothing;
         }
-        return first == second;
+        if a == b {
+            return Rule::Merge;
+        }
+        return Rule::Nothing;
     }
     if apart != 1 {
-        return false;
+        return Rule::Nothing;
     }
-    first == second
+    if a == b { Rule::Reduce } else { Rule::Nothing }
+}
+
+// The rule that fits. Few pairs of gates get past the look at targets and operators, and only these are compared line by line; modulo 255 the bytes
+// that mark lines are counted.
+pub fn rule_for(g: u64, h: u64) -> Rule
+    requires { ⌜ Written g × Written h ⌝ }
+    ensures { λ r. ⌜ r ≡ ruleFor (gateOf g) (gateOf h) ⌝ }
+{
+    if !may_fit(g, h) {
+        return Rule::Nothing;
+    }
+    if gates::words::mark_controls(g) != gates::words::mark_controls(h) {
+        return Rule::Nothing;
+    }
+    let apart = gates::words::mark_others(g, h / 65536) % 255;
+    rule_by((g % 256) as u8, (h % 256) as u8, apart)
 }
 
 // A rule fits.
@@ -111,10 +76,12 @@ pub fn fits_pair(g: u64, h: u64) -> bool
     requires { ⌜ Written g × Written h ⌝ }
     ensures { λ r. ⌜ r ≡ fits (gateOf g) (gateOf h) ⌝ }
 {
-    if may_fit(g, h) {
-        return fits_closely(g, h);
+    match rule_for(g, h) {
+        Rule::Cancel => true,
+        Rule::Merge => true,
+        Rule::Reduce => true,
+        Rule::Nothing => false,
     }
-    false
 }
 
 // The gate with the inverse operator.
@@ -128,18 +95,33 @@ pub fn invert(h: Gate) -> Gate
     }
 }
 
-// The gates i and j after control reduction.
-pub struct Reduced {
+// The first line on which the controls differ, or 6.
+fn find_difference(a: u16, b: u16) -> usize
+    ensures { λ r. ⌜ r ≡ first (λ k. not (eqb (digit 4 k a) (digit 4 k b))) 0 6 ⌝ }
+{
+    let mut k: usize = 0;
+    while k < 6 {
+        if gates::controls::control_on(a, k) == gates::controls::control_on(b, k) {
+            k = k + 1;
+        } else {
+            return k;
+        }
+    }
+    k
+}
+
+// What a rule leaves in the places of gates i and j.
+pub struct Left {
     pub first: Gate,
     pub second: Gate,
 }
 
 // Control reduction: gate i loses the line on which the two differ; gate j gets the third value there and, if a C, becomes its inverse.
-pub fn reduce_pair(g: Gate, h: Gate) -> Reduced
+pub fn reduce_pair(g: Gate, h: Gate) -> Left
     requires { ⌜ (reduces g h ≡ true) × (g .controls < 4 ^ 6) × (h .controls < 4 ^ 6) ⌝ }
     ensures { λ r. ⌜ (r .first ≡ loosened g h) × (r .second ≡ retuned g h) ⌝ }
 {
-    let k = super::controls::find_difference(g.controls, h.controls);
+    let k = find_difference(g.controls, h.controls);
     let s = gates::controls::control_on(g.controls, k);
     let t = gates::controls::control_on(h.controls, k);
     let same = g.operator;
@@ -154,5 +136,5 @@ pub fn reduce_pair(g: Gate, h: Gate) -> Reduced
         target: h.target,
         controls: gates::controls::with_control(h.controls, k, 3 - s - t),
     };
-    Reduced { first, second }
+    Left { first, second }
 }

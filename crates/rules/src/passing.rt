@@ -23,8 +23,9 @@ fn control_in(w: u64, t: u64) -> u64
     (w / 65536 >> (8 * t)) % 256
 }
 
-// A bit for each operator and each value of a control, set where the operator upsets it. Value 3 is no control.
-const UPSETS: u64 = 3561328;
+// Hexadecimal digit o, counted from the low end, has the control values that operator o upsets, bit v for value v: of C1 and C2 (digits 1 and 2) 0, 1
+// and 2, of N all but 1, of D all but 0, of E all but 2. Value 3 is no control, so no digit has bit 3; and digit 0 is a gap's.
+const UPSETS: u64 = 0x365770;
 
 // 1 where the target of g is a control of h that g upsets, else 0.
 fn blocks_gate(g: u64, h: u64) -> u64
@@ -35,15 +36,16 @@ fn blocks_gate(g: u64, h: u64) -> u64
     (UPSETS >> (4 * (g % 256) + v)) % 2
 }
 
-// A bit for each two operators, set where they are not of one type.
-const APART: u64 = 34089180798;
+// Byte a, counted from the low end, has the operators that are not of one type with operator a, bit b for operator b: all of 0 to 5 but a itself and, for
+// C1 and C2 (bytes 1 and 2), the other C.
+const APART: u64 = 0x1f2f3739393e;
 
 // 1 where two operators are not of one type, else 0.
 fn types_apart(a: u64, b: u64) -> u64
     requires { ⌜ (a < 6) × (b < 6) ⌝ }
     ensures { λ r. ⌜ r ≡ cond (not (sameType a b)) 1 0 ⌝ }
 {
-    (APART >> (6 * a + b)) % 2
+    (APART >> (8 * a + b)) % 2
 }
 
 // 1 where two numbers are one, else 0.
@@ -58,14 +60,13 @@ fn targets_clash(g: u64, h: u64) -> u64
     requires { ⌜ Written g × Written h ⌝ }
     ensures { λ r. ⌜ r ≡ cond (clashes (gateOf g) (gateOf h)) 1 0 ⌝ }
 {
-    let one = as_one(g / 256 % 256, h / 256 % 256);
-    (one + types_apart(g % 256, h % 256)) / 2
+    as_one(g / 256 % 256, h / 256 % 256) & types_apart(g % 256, h % 256)
 }
 
-// The gates may change places: none of three reasons against it, which are counted so that none is a branch.
+// The gates may change places: there is none of three reasons against it. Each is a bit, looked up and not decided, so that none is a branch.
 pub fn may_change(g: u64, h: u64) -> bool
     requires { ⌜ Written g × Written h ⌝ }
     ensures { λ r. ⌜ r ≡ mayChange (gateOf g) (gateOf h) ⌝ }
 {
-    targets_clash(g, h) + blocks_gate(g, h) + blocks_gate(h, g) == 0
+    targets_clash(g, h) | blocks_gate(g, h) | blocks_gate(h, g) == 0
 }

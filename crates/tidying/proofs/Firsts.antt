@@ -1,6 +1,6 @@
 -- The first pair of a list with gaps is the first pair of its gates: every gate passes a gap and fits none, so a row that is clear up to a place is
 -- clear up to the gates before that place; and the rule applied there is the rule applied to the gates. Assumes nothing.
-use mathlib.Core.Path.{_≡_, sym, ap, ap₂, _∙_}
+use mathlib.Core.Path.{_≡_, refl, sym, ap, ap₂, _∙_}
 use mathlib.Core.Logic.{⊎-elim}
 use mathlib.Core.Bool.{true, false}
 use mathlib.Core.List.{List}
@@ -14,16 +14,21 @@ use Rattle.ranges.proofs.Lists.{each-at}
 use Rattle.ranges.proofs.Searches.{found, found-unique}
 use Rattle.ranges.proofs.Counts.{by-place}
 use Rattle.gates.specs.declared.Gate.{Gate}
-use Rattle.gates.specs.Gates.{inverse}
+use Rattle.gates.specs.Gates.{inverse, IsGate}
+use Rattle.gates.proofs.Gates.{inverse-gate}
+use Rattle.rules.specs.declared.fitting.Rule.{Rule}
 use Rattle.rules.specs.Places.{mayChange}
-use Rattle.rules.specs.Rules.{cancels, merges, fits, loosened, retuned}
+use Rattle.rules.specs.Rules.{fits, loosened, retuned}
 use Rattle.rules.specs.Tidying.{gate, firstJ, firstI, without, ruled}
-use Rattle.rules.proofs.Steps.{ruled-cancel, ruled-merge, ruled-reduce}
-use Rattle.remembering.specs.Buffers.{isGap, Stands, kept, rank}
+use Rattle.rules.proofs.Rules.{reduction, loosened-gate, retuned-gate}
+use Rattle.rules.proofs.Pairs.{Chosen}
+use Rattle.rules.proofs.Pairs.Chosen.{cancel, merge, reduce, none}
+use Rattle.remembering.specs.Buffers.{gap, isGap, Stands, kept, rank}
 use Rattle.remembering.specs.Rows.{Quiet, Clear, Stops, Known, Low}
-use Rattle.remembering.proofs.Gaps.{rank-all, rank-le, rank-mono, rank-rises, rank-lt, gate-kept, Standing, stands-at, rank-before, kept-set, kept-gone, gap-passed, gap-unfit}
+use Rattle.remembering.proofs.Gaps.{rank-all, rank-le, rank-mono, rank-rises, rank-lt, gate-kept, Standing, stands-at, rank-before, kept-set, kept-gone, gate-real, gap-passed, gap-unfit}
+use Rattle.remembering.proofs.Buffers.{stands-gate, stands-gap}
 use Rattle.remembering.proofs.Rows.{row, row-ends, row-stops, row-fits, row-hits}
-use Rattle.tidying.specs.Searches.{PairAt}
+use Rattle.tidying.specs.Searches.{PairAt, leftBy}
 
 -- ---- rows
 
@@ -116,6 +121,12 @@ module _ (gs : List Gate) (ok : Each Stands gs) (i j : ℕ) (lt : i < length gs)
   real-j : isGap (gate gs j) ≡ false
   real-j = fits-real gs ok i j lt (w .inside lt) (w .gate-i lt) (w .fit lt)
 
+  first-gate : IsGate 6 (gate gs i)
+  first-gate = stand gs ok i lt .real (w .gate-i lt)
+
+  second-gate : IsGate 6 (gate gs j)
+  second-gate = stand gs ok j (w .inside lt) .real real-j
+
   -- the two gates, in the list without gaps
   first-is : gate (kept gs) (rank gs i) ≡ gate gs i
   first-is = gate-kept gs i lt (w .gate-i lt)
@@ -123,7 +134,14 @@ module _ (gs : List Gate) (ok : Each Stands gs) (i j : ℕ) (lt : i < length gs)
   second-is : gate (kept gs) (rank gs j) ≡ gate gs j
   second-is = gate-kept gs j (w .inside lt) real-j
 
-  module _ (g h : Gate) where
+  -- what the rule leaves there
+  pub left-stands : {r : Rule} → Chosen (gate gs i) (gate gs j) r → Stands (leftBy r (gate gs i) (gate gs j) .first) × Stands (leftBy r (gate gs i) (gate gs j) .second)
+  left-stands (cancel c) = (stands-gap, stands-gap)
+  left-stands (merge c m) = (stands-gap, stands-gate _ (inverse-gate 6 _ second-gate))
+  left-stands (reduce c m e) = let r = reduction _ _ e in (stands-gate _ (loosened-gate _ _ r 6 first-gate), stands-gate _ (retuned-gate _ _ r 6 second-gate))
+  left-stands (none n) = clash (fits (gate gs i) (gate gs j)) (w .fit lt) n
+
+  module _ (h : Gate) where
     there : i < length (set gs j h)
     there = rw (length-set gs j h) lt
 
@@ -133,26 +151,24 @@ module _ (gs : List Gate) (ok : Each Stands gs) (i j : ℕ) (lt : i < length gs)
     ranked : rank (set gs j h) i ≡ rank gs i
     ranked = rank-before gs j i h (omega (arith, w .clear lt .order))
 
-    pub ruled-none : cancels (gate gs i) (gate gs j) ≡ true → isGap g ≡ true → isGap h ≡ true
-        → kept (set (set gs j h) i g) ≡ ruled (kept gs) (rank gs i) (rank gs j)
-    ruled-none c e f =
-        kept-gone (set gs j h) i g there still e
-        ∙ ap₂ without (kept-gone gs j h (w .inside lt) real-j f) ranked
-        ∙ sym (ruled-cancel (kept gs) (rank gs i) (rank gs j) (rw (first-is, second-is) c))
-
-    pub ruled-one : cancels (gate gs i) (gate gs j) ≡ false → merges (gate gs i) (gate gs j) ≡ true → isGap g ≡ true → isGap h ≡ false → h ≡ inverse (gate gs j)
-        → kept (set (set gs j h) i g) ≡ ruled (kept gs) (rank gs i) (rank gs j)
-    ruled-one c d e f is =
-        kept-gone (set gs j h) i g there still e
-        ∙ ap₂ without (kept-set gs j h (w .inside lt) real-j f ∙ ap (set (kept gs) (rank gs j)) (is ∙ ap inverse (sym second-is))) ranked
-        ∙ sym (ruled-merge (kept gs) (rank gs i) (rank gs j) (rw (first-is, second-is) c) (rw (first-is, second-is) d))
-
-    pub ruled-two : cancels (gate gs i) (gate gs j) ≡ false → merges (gate gs i) (gate gs j) ≡ false → isGap g ≡ false → isGap h ≡ false
-        → g ≡ loosened (gate gs i) (gate gs j) → h ≡ retuned (gate gs i) (gate gs j) → kept (set (set gs j h) i g) ≡ ruled (kept gs) (rank gs i) (rank gs j)
-    ruled-two c d e f ig ih =
-        kept-set (set gs j h) i g there still e
-        ∙ ap (λ (x : ℕ). set (kept (set gs j h)) x g) ranked
-        ∙ ap (λ (l : List Gate). set l (rank gs i) g) (kept-set gs j h (w .inside lt) real-j f)
-        ∙ set-comm (kept gs) (rank gs j) (rank gs i) h g (omega (arith, rank-rises gs i j lt (w .gate-i lt) (w .clear lt .order)))
-        ∙ ap₂ (λ (x : Gate) (y : Gate). set (set (kept gs) (rank gs i) x) (rank gs j) y) (ig ∙ sym (ap₂ loosened first-is second-is)) (ih ∙ sym (ap₂ retuned first-is second-is))
-        ∙ sym (ruled-reduce (kept gs) (rank gs i) (rank gs j) (rw (first-is, second-is) c) (rw (first-is, second-is) d))
+  pub left-ruled : {r : Rule} → Chosen (gate gs i) (gate gs j) r
+      → kept (set (set gs j (leftBy r (gate gs i) (gate gs j) .second)) i (leftBy r (gate gs i) (gate gs j) .first)) ≡ ruled (kept gs) (rank gs i) (rank gs j)
+  unfolding isGap ruled
+  left-ruled (cancel c) =
+      kept-gone (set gs j gap) i gap (there gap) (still gap) refl
+      ∙ ap₂ without (kept-gone gs j gap (w .inside lt) real-j refl) (ranked gap)
+      ∙ rw (first-is, second-is, c)
+  left-ruled (merge c m) =
+      let h : Gate = inverse (gate gs j) in
+      kept-gone (set gs j h) i gap (there h) (still h) refl
+      ∙ ap₂ without (kept-set gs j h (w .inside lt) real-j (gate-real _ (inverse-gate 6 _ second-gate))) (ranked h)
+      ∙ rw (first-is, second-is, c, m)
+  left-ruled (reduce c m e) =
+      let r = reduction _ _ e in
+      let g : Gate = loosened (gate gs i) (gate gs j) in
+      let h : Gate = retuned (gate gs i) (gate gs j) in
+      kept-set (set gs j h) i g (there h) (still h) (gate-real _ (loosened-gate _ _ r 6 first-gate))
+      ∙ ap₂ (λ (l : List Gate) (x : ℕ). set l x g) (kept-set gs j h (w .inside lt) real-j (gate-real _ (retuned-gate _ _ r 6 second-gate))) (ranked h)
+      ∙ set-comm (kept gs) (rank gs j) (rank gs i) h g (omega (arith, rank-rises gs i j lt (w .gate-i lt) (w .clear lt .order)))
+      ∙ rw (first-is, second-is, c, m)
+  left-ruled (none n) = clash (fits (gate gs i) (gate gs j)) (w .fit lt) n

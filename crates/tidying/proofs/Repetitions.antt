@@ -20,11 +20,12 @@ use Rattle.rules.proofs.Weights.{control-count-le}
 use Rattle.rules.proofs.Steps.{stepped-size, step-stepped}
 use Rattle.rules.proofs.Endings.{afterSteps, after-none, after-one-more, one-answer, tidied-procedure}
 use Rattle.remembering.specs.Buffers.{gatesIn, isGap, kept, rank, Holds}
-use Rattle.remembering.specs.Rows.{Known, Low}
+use Rattle.remembering.specs.Rows.{Reached}
+use Rattle.remembering.specs.Views.{Marked}
 use Rattle.remembering.proofs.Gaps.{kept-all, rank-lt, rank-all, gate-real}
 use Rattle.remembering.proofs.Buffers.{length-gates, holds-list, holds-bytes}
 use Rattle.remembering.proofs.Rows.{known-start}
-use Rattle.tidying.specs.Searches.{TidiedIn, PairAt}
+use Rattle.tidying.specs.Searches.{Remembers, TidiedIn, PairAt}
 use Rattle.tidying.proofs.Firsts.{First, first-at}
 
 -- a list of m gates has at most 7 m gates and controls
@@ -51,49 +52,48 @@ module _ (gs : List Gate) (i j : ℕ) (f : First gs i j) where
 
 -- ---- the loop
 
--- after k steps on the gates gs the buffer b holds them with gaps at m places, far is true of these, and no row before x has a pair
-pub record Going (gs : List Gate) (b far : List ℕ) (m x k : ℕ) : Type 0 where
-  pub holds : Holds b (gatesIn b m)
+-- after k steps on the gates gs the buffer holds them with gaps, and what is remembered is true
+pub record Going (gs : List Gate) (b far reach marks : List ℕ) (m x k : ℕ) : Type 0 where
+  pub memory : Remembers b far reach marks m x
   pub list : kept (gatesIn b m) ≡ afterSteps k gs
-  pub known : Known (gatesIn b m) far
-  pub within : x ≤ m
-  pub low : Low far x
   pub used : (q : ℕ) → q < k → untidy (afterSteps q gs) ≡ true
   pub spent : k + size (afterSteps k gs) ≤ size gs
 
-pub going-start : (gs : List Gate) (b far : List ℕ) (m : ℕ) → length gs ≡ m → Each (IsGate 6) gs → Holds b gs → m ≤ 8000 → m + 16 ≤ length far
-    → Going gs b (span (λ r. r + 1) 0 m ++ drop m far) m 0 0
-going-start gs b far m e ok h most room =
+pub going-start : (gs : List Gate) (b far reach marks : List ℕ) (m : ℕ) → length gs ≡ m → Each (IsGate 6) gs → Holds b gs → m ≤ 8000 → m + 16 ≤ length far
+    → Reached (span (λ r. r + 1) 0 m ++ drop m far) reach m → Marked (gatesIn b m) marks → Going gs b (span (λ r. r + 1) 0 m ++ drop m far) reach marks m 0 0
+going-start gs b far reach marks m e ok h most room reached marked =
     let same : gatesIn b m ≡ gs = holds-list b gs m h e in
     let real : Each (λ g. isGap g ≡ false) gs = each-imp (IsGate 6) (λ g. isGap g ≡ false) gate-real gs ok in
     record {
-      holds = rw same h;
+      memory =
+          record {
+            most = most;
+            within = omega arith;
+            holds = rw same h;
+            known = rw same (known-start gs m far e most room real);
+            low = λ r l. absurd (omega arith);
+            reached = reached;
+            marked = marked;
+          };
       list = ap kept same ∙ kept-all gs real ∙ sym (after-none gs);
-      known = rw same (known-start gs m far e most room real);
-      within = omega arith;
-      low = λ r l. absurd (omega arith);
       used = λ q lt. absurd (omega arith);
       spent = rw (after-none gs) (omega arith);
     }
 
-module _ (gs : List Gate) (b far : List ℕ) (m x k : ℕ) (w : Going gs b far m x k) where
+module _ (gs : List Gate) (b far reach marks : List ℕ) (m x k : ℕ) (w : Going gs b far reach marks m x k) where
   -- a pair that the search found is the first of the gates
-  module _ (far′ : List ℕ) (i j : ℕ) (known : Known (gatesIn b m) far′) (low : Low far′ i) (f : PairAt (gatesIn b m) i j) where
+  module _ (far′ reach′ marks′ : List ℕ) (i j : ℕ) (v : Remembers b far′ reach′ marks′ m i) (f : PairAt (gatesIn b m) i j) where
     first : First (afterSteps k gs) (rank (gatesIn b m) i) (rank (gatesIn b m) j)
     first =
         subst (λ (l : List Gate). First l (rank (gatesIn b m) i) (rank (gatesIn b m) j)) (w .list)
-        (first-at (gatesIn b m) (w .holds .gates) far′ i j known low f)
+        (first-at (gatesIn b m) (v .holds .gates) far′ i j (v .known) (v .low) f)
 
-    pub going-next : i < m → (b′ far″ : List ℕ) (y : ℕ) → Holds b′ (gatesIn b′ m)
-        → kept (gatesIn b′ m) ≡ ruled (kept (gatesIn b m)) (rank (gatesIn b m) i) (rank (gatesIn b m) j)
-        → Known (gatesIn b′ m) far″ → y ≤ m → Low far″ y → Going gs b′ far″ m y (k + 1)
-    going-next lt b′ far″ y h e known′ within low′ =
+    pub going-next : i < m → (b″ far″ reach″ marks″ : List ℕ) (y : ℕ) → Remembers b″ far″ reach″ marks″ m y
+        → kept (gatesIn b″ m) ≡ ruled (kept (gatesIn b m)) (rank (gatesIn b m) i) (rank (gatesIn b m) j) → Going gs b″ far″ reach″ marks″ m y (k + 1)
+    going-next lt b″ far″ reach″ marks″ y u e =
         record {
-          holds = h;
+          memory = u;
           list = e ∙ ap (λ (l : List Gate). ruled l (rank (gatesIn b m) i) (rank (gatesIn b m) j)) (w .list) ∙ sym more;
-          known = known′;
-          within = within;
-          low = low′;
           used = λ q l. ⊎-elim (λ (p : q ≡ k). rw p some) (λ (p : q < k). w .used q p) (here-or-later (omega arith));
           spent = omega (arith, w .spent, ap size (after-one-more k gs), stepped-size (step-stepped (afterSteps k gs) some));
         }
@@ -110,7 +110,7 @@ module _ (gs : List Gate) (b far : List ℕ) (m x k : ℕ) (w : Going gs b far m
         more : afterSteps (k + 1) gs ≡ ruled (afterSteps k gs) (rank (gatesIn b m) i) (rank (gatesIn b m) j)
         more = after-one-more k gs ∙ sym (pair-step (afterSteps k gs) (rank (gatesIn b m) i) (rank (gatesIn b m) j) first inside)
 
-    pub going-end : m ≤ i → record { left = kept (gatesIn b m); steps = k } ≡ tidied gs
+    going-end : m ≤ i → record { left = kept (gatesIn b m); steps = k } ≡ tidied gs
     going-end le =
         one-answer gs (record { left = kept (gatesIn b m); steps = k }) (tidied gs)
         (record {
@@ -124,15 +124,14 @@ module _ (gs : List Gate) (b far : List ℕ) (m x k : ℕ) (w : Going gs b far m
         end : length (afterSteps k gs) ≤ rank (gatesIn b m) i
         end = rw (← w .list) (omega (arith, rank-all (gatesIn b m) i (rw (length-gates b m) le)))
 
--- the buffer afterwards, its gaps closed and its freed records cleared
-pub going-done : (s b far far′ c t : List ℕ) (m x left k i j : ℕ) → length s ≡ 8 * m → length c ≡ length s → Going (gatesOf s) b far m x k
-    → Known (gatesIn b m) far′ → Low far′ i → PairAt (gatesIn b m) i j → m ≤ i → Holds c (kept (gatesIn b m)) → left ≡ length (kept (gatesIn b m))
-    → t ≡ take (8 * left) c ++ replicate (length c - 8 * left) 0 → TidiedIn s t left k
-going-done s b far far′ c t m x left k i j size len w known low f le h all e =
-    let done : record { left = kept (gatesIn b m); steps = k } ≡ tidied (gatesOf s) = going-end (gatesOf s) b far m x k w far′ i j known low f le in
-    let list : kept (gatesIn b m) ≡ tidied (gatesOf s) .left = ap (λ (r : Tidied). r .left) done in
-    let count : left ≡ length (tidied (gatesOf s) .left) = all ∙ ap length list in
-    let bytes : take (8 * left) c ≡ bytesOf (tidied (gatesOf s) .left) =
-    ap (λ (y : ℕ). take (8 * y) c) all ∙ holds-bytes c (kept (gatesIn b m)) h ∙ ap bytesOf list in
-    let freed : length c - 8 * left ≡ 8 * (records s - length (tidied (gatesOf s) .left)) = omega arith in
-    record { count = count; uses = ap (λ (r : Tidied). r .steps) done; bytes = e ∙ rw (bytes, freed) }
+    -- the buffer afterwards, its gaps closed and its freed records cleared
+    pub going-done : (s c t : List ℕ) (left : ℕ) → gs ≡ gatesOf s → length s ≡ 8 * m → length c ≡ length s → m ≤ i → Holds c (kept (gatesIn b m)) → left ≡ length (kept (gatesIn b m))
+        → t ≡ take (8 * left) c ++ replicate (length c - 8 * left) 0 → TidiedIn s t left k
+    going-done s c t left is size len le h all e =
+        let done : record { left = kept (gatesIn b m); steps = k } ≡ tidied (gatesOf s) = going-end le ∙ ap tidied is in
+        let list : kept (gatesIn b m) ≡ tidied (gatesOf s) .left = ap (λ (r : Tidied). r .left) done in
+        let count : left ≡ length (tidied (gatesOf s) .left) = all ∙ ap length list in
+        let bytes : take (8 * left) c ≡ bytesOf (tidied (gatesOf s) .left) =
+        ap (λ (y : ℕ). take (8 * y) c) all ∙ holds-bytes c (kept (gatesIn b m)) h ∙ ap bytesOf list in
+        let freed : length c - 8 * left ≡ 8 * (records s - length (tidied (gatesOf s) .left)) = omega arith in
+        record { count = count; uses = ap (λ (r : Tidied). r .steps) done; bytes = e ∙ rw (bytes, freed) }

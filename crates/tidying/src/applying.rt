@@ -2,12 +2,14 @@
 ghost use mathlib.Core.Path.{_≡_};
 ghost use Prim.Native.Nat.{_≤_, _<_};
 ghost use lib.ListN.{set};
+ghost use Rattle.gates.specs.Words.{gateOf};
 ghost use Rattle.rules.specs.Tidying.{ruled};
-ghost use Rattle.remembering.specs.Buffers.{gatesIn, gap, Stands, Holds, kept, rank};
-ghost use Rattle.remembering.specs.Rows.{Known, Low, Reached};
-ghost use Rattle.remembering.specs.Views.{Marked};
-ghost use Rattle.tidying.specs.Searches.{PairAt};
+ghost use Rattle.rules.specs.Words.{Written, ruleFor};
+ghost use Rattle.remembering.specs.Buffers.{gatesIn, gap, Stands, kept, rank};
+ghost use Rattle.tidying.specs.Searches.{Remembers, PairAt, leftBy};
 use gates::Gate;
+use rules::fitting::Left;
+use rules::fitting::Rule;
 
 // What stands where a gate has gone.
 fn leave_gap() -> Gate
@@ -17,6 +19,27 @@ fn leave_gap() -> Gate
         operator: 0,
         target: 6,
         controls: 4095,
+    }
+}
+
+// What the rule that fits leaves in the places of a pair, a gap where a gate goes.
+fn leave_pair(g: u64, h: u64) -> Left
+    requires { ⌜ Written g × Written h ⌝ }
+    ensures { λ r. ⌜ r ≡ leftBy (ruleFor (gateOf g) (gateOf h)) (gateOf g) (gateOf h) ⌝ }
+{
+    let first = gates::words::gate_of(g);
+    let second = gates::words::gate_of(h);
+    match rules::fitting::rule_for(g, h) {
+        Rule::Cancel => Left {
+            first: leave_gap(),
+            second: leave_gap(),
+        },
+        Rule::Merge => Left {
+            first: leave_gap(),
+            second: rules::fitting::invert(second),
+        },
+        Rule::Reduce => rules::fitting::reduce_pair(first, second),
+        Rule::Nothing => Left { first, second },
     }
 }
 
@@ -31,40 +54,13 @@ fn replace(
     g: Gate,
     from: usize,
 ) -> usize
-    requires { ⌜ Holds (now b) (gatesIn (now b) m) ⌝ }
-    requires { ⌜ (from ≤ p) × (p < m) × (m ≤ 8000) × Stands g × Known (gatesIn (now b) m) (now far) × Low (now far) from ⌝ }
-    requires { ⌜ Reached (now far) (now reach) m × Marked (gatesIn (now b) m) (now marks) ⌝ }
-    ensures { λ _. ⌜ Holds (now (b .exit)) (set (gatesIn (now (b .entry)) m) p g) ⌝ }
-    ensures { λ q. ⌜ Known (set (gatesIn (now (b .entry)) m) p g) (now (far .exit)) × (q ≤ from) × Low (now (far .exit)) q ⌝ }
-    ensures { λ _. ⌜ Reached (now (far .exit)) (now (reach .exit)) m × Marked (set (gatesIn (now (b .entry)) m) p g) (now (marks .exit)) ⌝ }
+    requires { ⌜ Remembers (now b) (now far) (now reach) (now marks) m from × (from ≤ p) × (p < m) × Stands g ⌝ }
+    ensures { λ q. ⌜ Remembers (now (b .exit)) (now (far .exit)) (now (reach .exit)) (now (marks .exit)) m q × (q ≤ from) × (gatesIn (now (b .exit)) m ≡ set (gatesIn (now (b .entry)) m) p g) ⌝ }
 {
     let low = remembering::memory::settle_rows(b, far, reach, marks, m, p, g, from);
     gates::encode(g, b, 8 * p);
     remembering::views::forget_stretch(marks, p / 16);
     low
-}
-
-// The gates of a pair become g and h.
-fn replace_both(
-    b: &mut [u8],
-    far: &mut [u16],
-    reach: &mut [u16],
-    marks: &mut [u64],
-    m: usize,
-    i: usize,
-    j: usize,
-    g: Gate,
-    h: Gate,
-) -> usize
-    requires { ⌜ Holds (now b) (gatesIn (now b) m) ⌝ }
-    requires { ⌜ (i < j) × (j < m) × (m ≤ 8000) × Stands g × Stands h × Known (gatesIn (now b) m) (now far) × Low (now far) i ⌝ }
-    requires { ⌜ Reached (now far) (now reach) m × Marked (gatesIn (now b) m) (now marks) ⌝ }
-    ensures { λ _. ⌜ Holds (now (b .exit)) (set (set (gatesIn (now (b .entry)) m) j h) i g) ⌝ }
-    ensures { λ q. ⌜ Known (set (set (gatesIn (now (b .entry)) m) j h) i g) (now (far .exit)) × (q ≤ i) × Low (now (far .exit)) q ⌝ }
-    ensures { λ _. ⌜ Reached (now (far .exit)) (now (reach .exit)) m × Marked (set (set (gatesIn (now (b .entry)) m) j h) i g) (now (marks .exit)) ⌝ }
-{
-    let low = replace(b, far, reach, marks, m, j, h, i);
-    replace(b, far, reach, marks, m, i, g, low)
 }
 
 // The rule that fits the first pair i, j of m places; answers the lowest row that may have a pair then.
@@ -77,31 +73,14 @@ pub fn apply_rule(
     i: usize,
     j: usize,
 ) -> usize
-    requires { ⌜ Holds (now b) (gatesIn (now b) m) ⌝ }
-    requires { ⌜ (i < m) × (m ≤ 8000) × PairAt (gatesIn (now b) m) i j × Known (gatesIn (now b) m) (now far) × Low (now far) i ⌝ }
-    requires { ⌜ Reached (now far) (now reach) m × Marked (gatesIn (now b) m) (now marks) ⌝ }
-    ensures { λ _. ⌜ Holds (now (b .exit)) (gatesIn (now (b .exit)) m) × (kept (gatesIn (now (b .exit)) m) ≡ ruled (kept (gatesIn (now (b .entry)) m)) (rank (gatesIn (now (b .entry)) m) i) (rank (gatesIn (now (b .entry)) m) j)) ⌝ }
-    ensures { λ q. ⌜ Known (gatesIn (now (b .exit)) m) (now (far .exit)) × (q ≤ m) × Low (now (far .exit)) q ⌝ }
-    ensures { λ _. ⌜ Reached (now (far .exit)) (now (reach .exit)) m × Marked (gatesIn (now (b .exit)) m) (now (marks .exit)) ⌝ }
+    requires { ⌜ Remembers (now b) (now far) (now reach) (now marks) m i × (i < m) × PairAt (gatesIn (now b) m) i j ⌝ }
+    ensures { λ q. ⌜ Remembers (now (b .exit)) (now (far .exit)) (now (reach .exit)) (now (marks .exit)) m q ⌝ }
+    ensures { λ _. ⌜ kept (gatesIn (now (b .exit)) m) ≡ ruled (kept (gatesIn (now (b .entry)) m)) (rank (gatesIn (now (b .entry)) m) i) (rank (gatesIn (now (b .entry)) m) j) ⌝ }
 {
-    let g = remembering::buffer::read_gate(b, m, i);
-    let h = remembering::buffer::read_gate(b, m, j);
-    if rules::fitting::cancels_pair(g, h) {
-        return replace_both(b, far, reach, marks, m, i, j, leave_gap(), leave_gap());
-    }
-    if rules::fitting::merges_pair(g, h) {
-        return replace_both(
-            b,
-            far,
-            reach,
-            marks,
-            m,
-            i,
-            j,
-            leave_gap(),
-            rules::fitting::invert(h),
-        );
-    }
-    let made = rules::fitting::reduce_pair(g, h);
-    replace_both(b, far, reach, marks, m, i, j, made.first, made.second)
+    let left = leave_pair(
+        remembering::views::word(b, m, i),
+        remembering::views::word(b, m, j),
+    );
+    let low = replace(b, far, reach, marks, m, j, left.second, i);
+    replace(b, far, reach, marks, m, i, left.first, low)
 }

@@ -1,11 +1,12 @@
 // Steps repeated until none fits.
 ghost use mathlib.Core.Path.{_≡_};
 ghost use Prim.Native.Nat.{_+_, _*_, _≤_};
-ghost use lib.ListN.{length};
+ghost use lib.ListN.{length, replicate};
 ghost use Rattle.ranges.specs.Lists.{Each};
 ghost use Rattle.gates.specs.Gates.{IsGate};
 ghost use Rattle.cascades.specs.Cascades.{gatesOf};
 ghost use Rattle.remembering.specs.Buffers.{Holds};
+ghost use Rattle.remembering.specs.Views.{allKinds};
 ghost use Rattle.tidying.specs.Searches.{TidiedIn};
 
 // What is left of m gates, and how many steps it took.
@@ -14,7 +15,8 @@ pub struct Done {
     pub steps: usize,
 }
 
-// Tidies the m records of the buffer, with room to remember by: a number for each row, and one and two for each stretch of sixteen.
+// Tidies the m records of the buffer, with room to remember by: a number for each row, and one and two for each stretch of sixteen, of which nothing is
+// known at first.
 fn repeat_steps(
     b: &mut [u8],
     far: &mut [u16],
@@ -23,13 +25,11 @@ fn repeat_steps(
     m: usize,
 ) -> Done
     requires { ⌜ Holds (now b) (gatesOf (now b)) × Each (IsGate 6) (gatesOf (now b)) ⌝ }
-    requires { ⌜ (length (now b) ≡ 8 * m) × (m ≤ 8000) × (m + 16 ≤ length (now far)) × (m + 256 ≤ 16 * length (now reach)) × (m + 16 ≤ 8 * length (now marks)) ⌝ }
+    requires { ⌜ (length (now b) ≡ 8 * m) × (m ≤ 8000) × (m + 16 ≤ length (now far)) × (m + 256 ≤ 16 * length (now reach)) × (m + 16 ≤ 8 * length (now marks)) × (now marks ≡ replicate (length (now marks)) allKinds) ⌝ }
     ensures { λ r. ⌜ TidiedIn (now (b .entry)) (now (b .exit)) (r .left) (r .steps) ⌝ }
 {
     remembering::memory::start_rows(far, m);
-    let stretches = (m + 15) / 16;
-    remembering::memory::start_reach(reach, stretches);
-    remembering::views::start_marks(marks, 2 * stretches);
+    remembering::memory::start_reach(reach, (m + 15) / 16);
     let mut from: usize = 0;
     let mut steps: usize = 0;
     loop {
@@ -57,11 +57,11 @@ pub fn tidy_records(b: &mut [u8], m: usize) -> Done
     if m <= 64 {
         let mut few = [0u16; 80];
         let mut reach = [0u16; 20];
-        let mut marks = [0u64; 10];
+        let mut marks = [remembering::views::ALL; 10];
         return repeat_steps(b, &mut few, &mut reach, &mut marks, m);
     }
     let mut far = [0u16; 8016];
     let mut reach = [0u16; 516];
-    let mut marks = [0u64; 1002];
+    let mut marks = [remembering::views::ALL; 1002];
     repeat_steps(b, &mut far, &mut reach, &mut marks, m)
 }

@@ -1,12 +1,10 @@
 // The search for the first open pair that fits a rule.
 ghost use mathlib.Core.Path.{_≡_};
-ghost use Prim.Native.Nat.{_≤_, _<_};
+ghost use Prim.Native.Nat.{_<_};
 ghost use Rattle.rules.specs.Rules.{fits};
 ghost use Rattle.rules.specs.Tidying.{gate};
 ghost use Rattle.remembering.specs.Buffers.{gatesIn, Holds};
-ghost use Rattle.remembering.specs.Rows.{Known, Low, Reached};
-ghost use Rattle.remembering.specs.Views.{Marked};
-ghost use Rattle.tidying.specs.Searches.{PairAt};
+ghost use Rattle.tidying.specs.Searches.{Remembers, PairAt};
 
 // Two places of a cascade.
 pub struct Pair {
@@ -35,12 +33,8 @@ pub fn find_pair(
     m: usize,
     from: usize,
 ) -> Pair
-    requires { ⌜ Holds (now b) (gatesIn (now b) m) ⌝ }
-    requires { ⌜ (from ≤ m) × (m ≤ 8000) × Known (gatesIn (now b) m) (now far) × Low (now far) from ⌝ }
-    requires { ⌜ Reached (now far) (now reach) m × Marked (gatesIn (now b) m) (now marks) ⌝ }
-    ensures { λ r. ⌜ PairAt (gatesIn (now (b .entry)) m) (r .i) (r .j) ⌝ }
-    ensures { λ r. ⌜ Known (gatesIn (now (b .entry)) m) (now (far .exit)) × Low (now (far .exit)) (r .i) ⌝ }
-    ensures { λ _. ⌜ Reached (now (far .exit)) (now (reach .exit)) m × Marked (gatesIn (now (b .entry)) m) (now (marks .exit)) ⌝ }
+    requires { ⌜ Remembers (now b) (now far) (now reach) (now marks) m from ⌝ }
+    ensures { λ r. ⌜ Remembers (now (b .entry)) (now (far .exit)) (now (reach .exit)) (now (marks .exit)) m (r .i) × PairAt (gatesIn (now (b .entry)) m) (r .i) (r .j) ⌝ }
 {
     let mut i = remembering::memory::next_row(far, m, from);
     let mut j = i;
@@ -57,7 +51,7 @@ pub fn find_pair(
             }
             j = remembering::views::pass_stretches(b, marks, m, i, j + 1);
         }
-        far[i] = j as u16 + 16384;
+        far[i] = j as u16 + remembering::memory::SETTLED;
         remembering::memory::raise_reach(far, reach, m, i, j as u16);
         i = remembering::memory::next_row(far, m, i + 1);
     }

@@ -26,10 +26,10 @@ record Looking (gs : List Gate) (p : ℕ) (g : Gate) (far₀ far reach₀ reach 
   marks-len : length marks ≡ length marks₀
 
 abbrev Inv-loop : tie.InvT-loop
-Inv-loop b far₀ reach₀ marks₀ m p g sets kind x e from low₀ s₀ far reach marks low s = Looking (gatesIn b m) p g far₀ far reach₀ reach marks₀ marks m x e s from low
+Inv-loop b far₀ reach₀ marks₀ m p g seen x e from low₀ s₀ far reach marks low s = Looking (gatesIn b m) p g far₀ far reach₀ reach marks₀ marks m x e s from low
 
 abbrev μ-loop : tie.MeasureT-loop
-μ-loop b far₀ reach₀ marks₀ m p g sets kind x e from low₀ s₀ far reach marks low s = e - s
+μ-loop b far₀ reach₀ marks₀ m p g seen x e from low₀ s₀ far reach marks low s = e - s
 
 next : (s : ℕ) → 16 * (s + 1) ≡ 16 * s + 16
 next s = omega arith

@@ -1,35 +1,29 @@
--- `remembering::views::own_part` meets its contract: one case for each operator. Assumes nothing.
-use mathlib.Core.Path.{refl}
+-- `remembering::views::own_part` meets its contract: the number has the right byte for each operator, which is computed. Assumes nothing.
+use mathlib.Core.Path.{_≡_, refl}
+use Prim.Native.Nat.{ℕ, _*_, _/_, _%_, _^_, _<_}
 use native.Mathlib.Omega.{arith}
-use borrow.Author.Tests.{ne-eqb}
+use lib.Dec.{eqb}
+use borrow.Author.Tests.{eqb-true}
+use Rattle.ranges.specs.Ranges.{every}
+use Rattle.ranges.proofs.Tests.{every-below}
 use Rattle.rules.specs.Places.{isC}
 use Rattle.remembering.specs.Views.{typeOf, ownPart}
+use borrow.Author.Needs.{needs}
 use Rattle.remembering.proofs.views.own_part.Statement.{statement}
 use Rattle.remembering.proofs.views.own_part.Tie as tie
 
+part-is : (o : ℕ) → o < 6 → 49800657995520 / 2 ^ (8 * o) % 256 ≡ ownPart o
+unfolding every ownPart typeOf isC
+part-is o lt = eqb-true _ _ (every-below (λ o. eqb (49800657995520 / 2 ^ (8 * o) % 256) (ownPart o)) 6 refl o lt)
+
+mul-result : tie.Need-mul-result
+mul-result c = search needs
+
+shr-result : tie.Need-shr-result
+shr-result c = search needs
+
 returns : tie.Need-returns
-unfolding ownPart typeOf isC
-returns c = rw (c .match .keys1) (refl, omega arith)
-
-returns-2 : tie.Need-returns-2
-unfolding ownPart typeOf isC
-returns-2 c = rw (c .match .keys2) (refl, omega arith)
-
-returns-3 : tie.Need-returns-3
-unfolding ownPart typeOf isC
-returns-3 c = rw (c .match .keys3) (refl, omega arith)
-
-returns-4 : tie.Need-returns-4
-unfolding ownPart typeOf isC
-returns-4 c = rw (c .match .keys4) (refl, omega arith)
-
-returns-5 : tie.Need-returns-5
-unfolding ownPart typeOf isC
-returns-5 c = rw (c .match .keys5) (refl, omega arith)
-
-returns-6 : tie.Need-returns-6
-unfolding ownPart typeOf isC
-returns-6 c = rw (ne-eqb (c .before .args .o) 0 (λ e. omega (arith, c .match .rest)), ne-eqb (c .before .args .o) 1 (λ e. omega (arith, c .match .rest)), ne-eqb (c .before .args .o) 2 (λ e. omega (arith, c .match .rest)), ne-eqb (c .before .args .o) 3 (λ e. omega (arith, c .match .rest)), ne-eqb (c .before .args .o) 4 (λ e. omega (arith, c .match .rest))) (refl, omega arith)
+returns c = (part-is _ (c .pre), omega arith)
 
 pub own-part-spec : {M : Type 1} → statement M
-own-part-spec = tie.close (tie.spec returns returns-2 returns-3 returns-4 returns-5 returns-6)
+own-part-spec = tie.close (tie.spec mul-result shr-result returns)

@@ -7,9 +7,9 @@ use lib.Dec.{eqb}
 use borrow.Author.Tests.{eqb-true}
 use Rattle.ranges.specs.Ranges.{every}
 use Rattle.ranges.proofs.Tests.{every-below}
-use Rattle.digits.proofs.Digits.{digit-zero}
 use Rattle.gates.proofs.Bytes.{byte-one, operator-word, target-word}
 use Rattle.rules.specs.Places.{isC, upsets, blocks}
+use Rattle.rules.proofs.Words.{operator-lt}
 use Rattle.rules.proofs.passing.blocks_gate.Statement.{statement}
 use Rattle.rules.proofs.passing.blocks_gate.Tie as tie
 
@@ -20,25 +20,21 @@ bit-is : (o v : ℕ) → o < 6 → v < 4 → 3561328 / 2 ^ (4 * o + v) % 2 ≡ c
 unfolding bitTest every upsets isC
 bit-is o v lo lv = eqb-true _ _ (every-below (bitTest o) 4 (every-below (λ x. every (bitTest x) 0 4) 6 refl o lo) v lv)
 
-module _ (c : tie.Start) where
-  operator : c .args .g % 256 < 6
-  operator = rw (← digit-zero 256 (c .args .g)) (omega (arith, c .pre .0 .op-high))
-
 control-in-requires : tie.Need-control-in-requires
 control-in-requires c κs = (c .pre .1, rw (← byte-one (c .args .g)) (c .pre .0 .on-line))
 
 mul-result : tie.Need-mul-result
-mul-result c = omega (arith, operator (c .before))
+mul-result c = omega (arith, operator-lt _ (c .before .pre .0))
 
 add-result : tie.Need-add-result
-add-result c = omega (arith, operator (c .before), c .control-in .ensures .1)
+add-result c = omega (arith, operator-lt _ (c .before .pre .0), c .control-in .ensures .1)
 
 shr-result : tie.Need-shr-result
-shr-result c = omega (arith, operator (c .before), c .control-in .ensures .1)
+shr-result c = omega (arith, operator-lt _ (c .before .pre .0), c .control-in .ensures .1)
 
 returns : tie.Need-returns
 unfolding blocks
-returns c = rw (operator-word (c .before .args .g), target-word (c .before .args .g), ← c .control-in .ensures .0) (bit-is _ _ (operator (c .before)) (c .control-in .ensures .1))
+returns c = rw (operator-word (c .before .args .g), target-word (c .before .args .g), ← c .control-in .ensures .0) (bit-is _ _ (operator-lt _ (c .before .pre .0)) (c .control-in .ensures .1))
 
 pub blocks-gate-spec : {M : Type 1} → statement M
 blocks-gate-spec = tie.close (tie.spec control-in-requires mul-result add-result shr-result returns)

@@ -8,9 +8,6 @@ use lib.ListN.{length}
 use Rattle.cascades.specs.Cascades.{gatesOf}
 use Rattle.cascades.proofs.Cascades.{gates-count}
 use Rattle.rules.specs.Tidying.{size}
-use Rattle.remembering.specs.Buffers.{gatesIn}
-use Rattle.remembering.specs.Rows.{Reached}
-use Rattle.remembering.specs.Views.{Marked}
 use Rattle.remembering.proofs.Buffers.{length-gates}
 use Rattle.remembering.proofs.Rows.{reach-start}
 use Rattle.remembering.proofs.Stretches.{marked-start}
@@ -19,56 +16,50 @@ use Rattle.tidying.proofs.repeating.repeat_steps.Statement.{statement}
 use Rattle.tidying.proofs.repeating.repeat_steps.Tie as tie
 
 record Invariant (b₀ far₀ reach₀ marks₀ b far reach marks : List ℕ) (m from steps : ℕ) : Type 0 where
-  going : Going (gatesOf b₀) b far m from steps
-  reached : Reached far reach m
-  marked : Marked (gatesIn b m) marks
+  going : Going (gatesOf b₀) b far reach marks m from steps
   len : length b ≡ length b₀
   far-len : length far ≡ length far₀
   reach-len : length reach ≡ length reach₀
   marks-len : length marks ≡ length marks₀
 
 abbrev Inv-loop : tie.InvT-loop
-Inv-loop b₀ far₀ reach₀ marks₀ m stretches from₀ steps₀ b far reach marks from steps = Invariant b₀ far₀ reach₀ marks₀ b far reach marks m from steps
+Inv-loop b₀ far₀ reach₀ marks₀ m from₀ steps₀ b far reach marks from steps = Invariant b₀ far₀ reach₀ marks₀ b far reach marks m from steps
 
 abbrev μ-loop : tie.MeasureT-loop
-μ-loop b₀ far₀ reach₀ marks₀ m stretches from₀ steps₀ b far reach marks from steps = size (gatesOf b₀) - steps
+μ-loop b₀ far₀ reach₀ marks₀ m from₀ steps₀ b far reach marks from steps = size (gatesOf b₀) - steps
 
 module _ (s : tie.Start Inv-loop μ-loop) where
   count : length (gatesOf (s .args .b .now)) ≡ s .args .m
   count = gates-count (s .args .b .now) ∙ omega (arith, s .pre .1 .0)
 
-module _ (c : tie.After-slice-known14 Inv-loop μ-loop) where
-  next : Going (gatesOf (c .before .before .before .before .before .before .before .before .before .before .before .before .before .before .before .before .before .before .before .before .before .before .before .before .before .before .before .before .before .before .before .before .before .before .before .before .before .before .before .before .before .before .args .b .now)) (c .before .before .before .before .before .before .before .before .apply-rule .last .0) (c .before .before .before .before .before .before .before .before .apply-rule .last .1 .0) (c .before .before .before .before .before .before .before .before .before .before .before .before .before .before .before .before .before .before .before .before .before .before .before .before .before .before .before .before .before .before .before .before .before .before .before .before .before .before .before .before .before .before .args .m) (c .before .before .before .before .before .before .before .before .apply-rule .result) (c .before .before .before .before .before .before .before .before .before .before .before .before .before .before .before .before .before .before .before .before .before .before .before .before .before .loop .steps + 1)
+module _ (c : tie.After-slice-known13 Inv-loop μ-loop) where
+  next : Going (gatesOf (c .before .before .before .before .before .before .before .before .before .before .before .before .before .before .before .before .before .before .before .before .before .before .before .before .before .before .before .before .before .before .before .before .before .before .before .before .before .before .args .b .now)) (c .before .before .before .before .before .before .before .before .apply-rule .last .0) (c .before .before .before .before .before .before .before .before .apply-rule .last .1 .0) (c .before .before .before .before .before .before .before .before .apply-rule .last .1 .1 .0) (c .before .before .before .before .before .before .before .before .apply-rule .last .1 .1 .1 .0) (c .before .before .before .before .before .before .before .before .before .before .before .before .before .before .before .before .before .before .before .before .before .before .before .before .before .before .before .before .before .before .before .before .before .before .before .before .before .before .args .m) (c .before .before .before .before .before .before .before .before .apply-rule .result) (c .before .before .before .before .before .before .before .before .before .before .before .before .before .before .before .before .before .before .before .before .before .before .before .before .before .loop .steps + 1)
   next =
       let f = c .before .before .before .before .before .before .before .before .before .before .before .before .before .before .before .before .before .before .before .before .find-pair .ensures in
       let a = c .before .before .before .before .before .before .before .before .apply-rule .ensures in
-      going-next _ _ _ _ _ _ (c .before .before .before .before .before .before .before .before .before .before .before .before .before .before .before .before .before .before .before .before .before .before .before .before .before .loop .inv .going) _ _ _ (f .1 .0 .0) (f .1 .0 .1) (f .0) (c .before .before .before .before .before .before .before .before .before .before .before .before .before .if1 .left) _ _ _ (a .0 .0) (a .0 .1) (a .1 .0 .0) (a .1 .0 .1) (a .1 .0 .2)
+      going-next _ _ _ _ _ _ _ _ (c .before .before .before .before .before .before .before .before .before .before .before .before .before .before .before .before .before .before .before .before .before .before .before .before .before .loop .inv .going) _ _ _ _ _ (f .0) (f .1) (c .before .before .before .before .before .before .before .before .before .before .before .before .before .if1 .left) _ _ _ _ _ (a .0) (a .1)
 
-  most-size : size (gatesOf (c .before .before .before .before .before .before .before .before .before .before .before .before .before .before .before .before .before .before .before .before .before .before .before .before .before .before .before .before .before .before .before .before .before .before .before .before .before .before .before .before .before .before .args .b .now)) ≤ 56000
-  most-size = omega (arith, size-le (gatesOf (c .before .before .before .before .before .before .before .before .before .before .before .before .before .before .before .before .before .before .before .before .before .before .before .before .before .before .before .before .before .before .before .before .before .before .before .before .before .before .before .before .before .before .args .b .now)), count (c .before .before .before .before .before .before .before .before .before .before .before .before .before .before .before .before .before .before .before .before .before .before .before .before .before .before .before .before .before .before .before .before .before .before .before .before .before .before .before .before .before .before), c .before .before .before .before .before .before .before .before .before .before .before .before .before .before .before .before .before .before .before .before .before .before .before .before .before .before .before .before .before .before .before .before .before .before .before .before .before .before .before .before .before .before .pre .1 .1)
+  most-size : size (gatesOf (c .before .before .before .before .before .before .before .before .before .before .before .before .before .before .before .before .before .before .before .before .before .before .before .before .before .before .before .before .before .before .before .before .before .before .before .before .before .before .args .b .now)) ≤ 56000
+  most-size = omega (arith, size-le (gatesOf (c .before .before .before .before .before .before .before .before .before .before .before .before .before .before .before .before .before .before .before .before .before .before .before .before .before .before .before .before .before .before .before .before .before .before .before .before .before .before .args .b .now)), count (c .before .before .before .before .before .before .before .before .before .before .before .before .before .before .before .before .before .before .before .before .before .before .before .before .before .before .before .before .before .before .before .before .before .before .before .before .before .before), c .before .before .before .before .before .before .before .before .before .before .before .before .before .before .before .before .before .before .before .before .before .before .before .before .before .before .before .before .before .before .before .before .before .before .before .before .before .before .pre .1 .1)
 
 start-rows-requires : tie.Need-start-rows-requires Inv-loop μ-loop
 start-rows-requires c κs = (c .before .before .before .before .before .pre .1 .1, omega (arith, c .before .before .before .before .before .pre .1 .2))
 
-add-stretches : tie.Need-add-stretches Inv-loop μ-loop
-add-stretches c = omega (arith, c .before .before .before .before .before .before .before .before .pre .1)
+add-start-reach : tie.Need-add-start-reach Inv-loop μ-loop
+add-start-reach c = omega (arith, c .before .before .before .before .before .before .before .before .before .pre .1)
 
 start-reach-requires : tie.Need-start-reach-requires Inv-loop μ-loop
 start-reach-requires c κs = (omega (arith, c .before .before .before .before .before .before .before .before .before .pre .1), omega (arith, c .before .before .before .before .before .before .before .before .before .pre .1))
 
-mul-start-marks : tie.Need-mul-start-marks Inv-loop μ-loop
-mul-start-marks c = omega (arith, c .before .before .before .before .before .before .before .before .before .before .before .before .before .pre .1)
-
-start-marks-requires : tie.Need-start-marks-requires Inv-loop μ-loop
-start-marks-requires c κs = (omega (arith, c .before .before .before .before .before .before .before .before .before .before .before .before .before .pre .1), omega (arith, c .before .before .before .before .before .before .before .before .before .before .before .before .before .pre .1))
-
 loop-holds : tie.Need-loop-holds Inv-loop μ-loop
 loop-holds c =
-    let s = c .before .before .before .before .before .before .before .before .before .before .before .before .before .before .before .before in
+    let s = c .before .before .before .before .before .before .before .before .before .before .before .before in
+    let w = s .pre .1 in
     record {
-      going = rw (c .before .before .before .before .before .before .before .before .before .before .start-rows .ensures) (going-start _ _ _ _ (count s) (s .pre .0 .1) (s .pre .0 .0) (s .pre .1 .1) (s .pre .1 .2));
-      reached = rw (c .before .before .before .before .before .before .before .before .before .before .start-rows .ensures, c .before .before .before .before .before .before .start-reach .ensures) (reach-start _ _ _ _ (omega arith) (omega (arith, s .pre .1 .1)) (s .pre .1 .3) (omega (arith, s .pre .1 .2)));
-      marked = rw (c .before .before .start-marks .ensures) (marked-start _ _ _ (omega (arith, length-gates (c .before .before .before .before .before .before .before .before .before .before .before .before .before .before .before .before .args .b .now) (c .before .before .before .before .before .before .before .before .before .before .before .before .before .before .before .before .args .m))) (omega (arith, length-gates (c .before .before .before .before .before .before .before .before .before .before .before .before .before .before .before .before .args .b .now) (c .before .before .before .before .before .before .before .before .before .before .before .before .before .before .before .before .args .m), s .pre .1 .4)));
+      going = rw (c .before .before .before .before .before .before .start-rows .ensures)
+          (going-start _ _ _ _ _ _ (count s) (s .pre .0 .1) (s .pre .0 .0) (w .1) (w .2)
+          (rw (c .before .before .start-reach .ensures) (reach-start _ _ _ _ (omega arith) (omega (arith, w)) (w .3) (omega (arith, w))))
+          (marked-start _ _ (omega (arith, length-gates (s .args .b .now) (s .args .m), w)) (w .5)));
       len = refl;
       far-len = refl;
       reach-len = refl;
@@ -76,10 +67,10 @@ loop-holds c =
     }
 
 find-pair-requires : tie.Need-find-pair-requires Inv-loop μ-loop
-find-pair-requires c κs = let w = c .before .before .before .before .loop .inv .going in (w .holds, ((w .within, c .before .before .before .before .before .before .before .before .before .before .before .before .before .before .before .before .before .before .before .before .before .pre .1 .1, w .known, w .low), (c .before .before .before .before .loop .inv .reached, c .before .before .before .before .loop .inv .marked)))
+find-pair-requires c κs = c .before .before .before .before .loop .inv .going .memory
 
 apply-rule-requires : tie.Need-apply-rule-requires Inv-loop μ-loop
-apply-rule-requires c κs = let f = c .before .before .before .before .before .before .before .before .before .before .before .find-pair .ensures in (c .before .before .before .before .before .before .before .before .before .before .before .before .before .before .before .before .loop .inv .going .holds, ((c .before .before .before .before .if1 .left, c .before .before .before .before .before .before .before .before .before .before .before .before .before .before .before .before .before .before .before .before .before .before .before .before .before .before .before .before .before .before .before .before .before .pre .1 .1, f .0, f .1 .0 .0, f .1 .0 .1), (f .1 .1 .0, f .1 .1 .1)))
+apply-rule-requires c κs = let f = c .before .before .before .before .before .before .before .before .before .before .before .find-pair .ensures in (f .0, c .before .before .before .before .if1 .left, f .1)
 
 add-steps : tie.Need-add-steps Inv-loop μ-loop
 add-steps c = omega (arith, next c .spent, most-size c)
@@ -90,22 +81,19 @@ loop-less c = omega (arith, next c .spent)
 loop-again : tie.Need-loop-again Inv-loop μ-loop
 loop-again c =
     let w = c .before .before .before .before .before .before .before .before .before .before .before .before .before .before .before .before .before .before .before .before .before .before .before .before .before .loop .inv in
-    let a = c .before .before .before .before .before .before .before .before .apply-rule .ensures in
     record {
       going = next c;
-      reached = a .1 .1 .0;
-      marked = a .1 .1 .1;
       len = c .before .before .before .before .before .before .before .b .given ∙ w .len;
       far-len = c .before .before .before .before .before .far3 .given ∙ c .before .before .before .before .before .before .before .before .before .before .before .before .before .before .before .before .before .before .before .far2 .given ∙ w .far-len;
       reach-len = c .before .before .before .reach3 .given ∙ c .before .before .before .before .before .before .before .before .before .before .before .before .before .before .before .before .before .reach2 .given ∙ w .reach-len;
-      marks-len = c .before .marks3 .given ∙ c .before .before .before .before .before .before .before .before .before .before .before .before .before .before .before .marks2 .given ∙ w .marks-len;
+      marks-len = c .before .marks2 .given ∙ c .before .before .before .before .before .before .before .before .before .before .before .before .before .before .before .marks .given ∙ w .marks-len;
     }
 
 close-gaps-requires : tie.Need-close-gaps-requires Inv-loop μ-loop
-close-gaps-requires c κs = c .before .before .before .before .before .before .before .before .before .before .before .before .before .loop .inv .going .holds
+close-gaps-requires c κs = c .before .before .before .before .before .before .before .before .before .before .before .before .before .loop .inv .going .memory .holds
 
 mul-clear-from : tie.Need-mul-clear-from Inv-loop μ-loop
-mul-clear-from c = omega (arith, c .before .before .before .close-gaps .ensures .0 .room, c .before .before .before .close-gaps .ensures .1, c .before .before .b2 .given, c .before .before .before .before .before .before .before .before .before .before .before .before .before .before .before .before .before .loop .inv .len, c .before .before .before .before .before .before .before .before .before .before .before .before .before .before .before .before .before .before .before .before .before .before .before .before .before .before .before .before .before .before .before .before .before .before .pre .1)
+mul-clear-from c = omega (arith, c .before .before .before .close-gaps .ensures .0 .room, c .before .before .before .close-gaps .ensures .1, c .before .before .b2 .given, c .before .before .before .before .before .before .before .before .before .before .before .before .before .before .before .before .before .loop .inv .len, c .before .before .before .before .before .before .before .before .before .before .before .before .before .before .before .before .before .before .before .before .before .before .before .before .before .before .before .before .before .before .pre .1)
 
 clear-from-requires : tie.Need-clear-from-requires Inv-loop μ-loop
 clear-from-requires c κs = omega (arith, c .before .before .before .close-gaps .ensures .0 .room, c .before .before .before .close-gaps .ensures .1)
@@ -114,19 +102,19 @@ same-length : tie.Need-same-length Inv-loop μ-loop
 same-length c = c .before .b3 .given ∙ c .before .before .before .before .before .b2 .given ∙ c .before .before .before .before .before .before .before .before .before .before .before .before .before .before .before .before .before .before .before .before .loop .inv .len
 
 same-length-2 : tie.Need-same-length-2 Inv-loop μ-loop
-same-length-2 c = c .before .before .before .before .before .before .before .before .before .before .before .before .before .before .far2 .given ∙ c .before .before .before .before .before .before .before .before .before .before .before .before .before .before .before .before .before .before .before .before .loop .inv .far-len ∙ c .before .before .before .before .before .before .before .before .before .before .before .before .before .before .before .before .before .before .before .before .before .before .before .before .before .before .before .before .before .before .far .given
+same-length-2 c = c .before .before .before .before .before .before .before .before .before .before .before .before .before .before .far2 .given ∙ c .before .before .before .before .before .before .before .before .before .before .before .before .before .before .before .before .before .before .before .before .loop .inv .far-len ∙ c .before .before .before .before .before .before .before .before .before .before .before .before .before .before .before .before .before .before .before .before .before .before .before .before .before .before .far .given
 
 same-length-3 : tie.Need-same-length-3 Inv-loop μ-loop
-same-length-3 c = c .before .before .before .before .before .before .before .before .before .before .before .before .reach2 .given ∙ c .before .before .before .before .before .before .before .before .before .before .before .before .before .before .before .before .before .before .before .before .loop .inv .reach-len ∙ c .before .before .before .before .before .before .before .before .before .before .before .before .before .before .before .before .before .before .before .before .before .before .before .before .before .before .reach .given
+same-length-3 c = c .before .before .before .before .before .before .before .before .before .before .before .before .reach2 .given ∙ c .before .before .before .before .before .before .before .before .before .before .before .before .before .before .before .before .before .before .before .before .loop .inv .reach-len ∙ c .before .before .before .before .before .before .before .before .before .before .before .before .before .before .before .before .before .before .before .before .before .before .reach .given
 
 same-length-4 : tie.Need-same-length-4 Inv-loop μ-loop
-same-length-4 c = c .before .before .before .before .before .before .before .before .before .before .marks2 .given ∙ c .before .before .before .before .before .before .before .before .before .before .before .before .before .before .before .before .before .before .before .before .loop .inv .marks-len ∙ c .before .before .before .before .before .before .before .before .before .before .before .before .before .before .before .before .before .before .before .before .before .before .marks .given
+same-length-4 c = c .before .before .before .before .before .before .before .before .before .before .marks .given ∙ c .before .before .before .before .before .before .before .before .before .before .before .before .before .before .before .before .before .before .before .before .loop .inv .marks-len
 
 returns : tie.Need-returns Inv-loop μ-loop
 returns c =
     let f = c .before .before .before .before .before .before .before .before .before .before .before .before .before .before .before .find-pair .ensures in
     let d = c .before .before .before .before .before .before .close-gaps .ensures in
-    going-done _ _ _ _ _ _ _ _ _ _ _ _ (c .before .before .before .before .before .before .before .before .before .before .before .before .before .before .before .before .before .before .before .before .before .before .before .before .before .before .before .before .before .before .before .before .before .before .before .before .before .pre .1 .0) (c .before .before .before .before .before .b2 .given ∙ c .before .before .before .before .before .before .before .before .before .before .before .before .before .before .before .before .before .before .before .before .loop .inv .len) (c .before .before .before .before .before .before .before .before .before .before .before .before .before .before .before .before .before .before .before .before .loop .inv .going) (f .1 .0 .0) (f .1 .0 .1) (f .0) (c .before .before .before .before .before .before .before .before .if1 .taken) (d .0) (d .1) (c .before .before .clear-from .ensures)
+    going-done _ _ _ _ _ _ _ _ (c .before .before .before .before .before .before .before .before .before .before .before .before .before .before .before .before .before .before .before .before .loop .inv .going) _ _ _ _ _ (f .0) (f .1) _ _ _ _ refl (c .before .before .before .before .before .before .before .before .before .before .before .before .before .before .before .before .before .before .before .before .before .before .before .before .before .before .before .before .before .before .before .before .before .pre .1 .0) (c .before .before .before .before .before .b2 .given ∙ c .before .before .before .before .before .before .before .before .before .before .before .before .before .before .before .before .before .before .before .before .loop .inv .len) (c .before .before .before .before .before .before .before .before .if1 .taken) (d .0) (d .1) (c .before .before .clear-from .ensures)
 
 pub repeat-steps-spec : {M : Type 1} → statement M
 repeat-steps-spec =
@@ -135,10 +123,8 @@ repeat-steps-spec =
     Inv-loop
     μ-loop
     start-rows-requires
-    add-stretches
+    add-start-reach
     start-reach-requires
-    mul-start-marks
-    start-marks-requires
     loop-holds
     find-pair-requires
     apply-rule-requires

@@ -1,4 +1,5 @@
 -- `tidying::repeating::tidy_records` meets its contract: the room lent is enough for so many records. Assumes nothing.
+use mathlib.Core.Path.{refl}
 use native.Mathlib.Omega.{arith}
 use borrow.Author.Needs.{needs}
 use Rattle.tidying.proofs.repeating.tidy_records.Statement.{statement}
@@ -14,7 +15,7 @@ slice-aggregate-repeat-steps-3 : tie.Need-slice-aggregate-repeat-steps-3
 slice-aggregate-repeat-steps-3 c = search needs
 
 repeat-steps-requires : tie.Need-repeat-steps-requires
-repeat-steps-requires c κs = let w = c .before .before .before .before .before .before .pre .1 in (c .before .before .before .before .before .before .pre .0, (w .0, w .1, omega (arith, w), omega (arith, w), omega (arith, w)))
+repeat-steps-requires c κs = let w = c .before .before .before .before .before .before .pre .1 in (c .before .before .before .before .before .before .pre .0, (w .0, w .1, omega (arith, w), omega (arith, w), omega (arith, w), refl))
 
 same-length : tie.Need-same-length
 same-length c = search needs
@@ -32,7 +33,7 @@ slice-aggregate-repeat-steps-6 : tie.Need-slice-aggregate-repeat-steps-6
 slice-aggregate-repeat-steps-6 c = search needs
 
 repeat-steps-requires-2 : tie.Need-repeat-steps-requires-2
-repeat-steps-requires-2 c κs = let w = c .before .before .before .before .before .before .pre .1 in (c .before .before .before .before .before .before .pre .0, (w .0, w .1, omega (arith, w), omega (arith, w), omega (arith, w)))
+repeat-steps-requires-2 c κs = let w = c .before .before .before .before .before .before .pre .1 in (c .before .before .before .before .before .before .pre .0, (w .0, w .1, omega (arith, w), omega (arith, w), omega (arith, w), refl))
 
 same-length-2 : tie.Need-same-length-2
 same-length-2 c = search needs

@@ -17,21 +17,18 @@ use Rattle.rules.specs.Places.{mayChange}
 use Rattle.rules.specs.Rules.{fits}
 use Rattle.rules.specs.Tidying.{gate}
 use Rattle.remembering.specs.Buffers.{gatesIn, isGap}
-use Rattle.remembering.specs.Rows.{Clear, Stops, Known, Low, Reached}
+use Rattle.remembering.specs.Rows.{Clear, Stops, Known}
 use Rattle.remembering.specs.Views.{Marked}
 use Rattle.remembering.proofs.Buffers.{length-gates, holds-gate}
 use Rattle.remembering.proofs.Rows.{clear-next, row-real, row-clear, known-stops, reach-others, low-next}
 use Rattle.remembering.proofs.Stretches.{shut-unfit}
+use Rattle.tidying.specs.Searches.{Remembers}
 use Rattle.tidying.proofs.scan.find_pair.Statement.{statement}
 use Rattle.tidying.proofs.scan.find_pair.Tie as tie
 
-record Searching (gs : List Gate) (s t reach₀ reach marks₀ marks : List ℕ) (m i : ℕ) : Type 0 where
-  within : i ≤ m
-  known : Known gs t
-  low : Low t i
+record Searching (b s t reach₀ reach marks₀ marks : List ℕ) (m i : ℕ) : Type 0 where
+  memory : Remembers b t reach marks m i
   unsure : i < m → getD t i 0 < 16384
-  reached : Reached t reach m
-  marked : Marked gs marks
   len : length t ≡ length s
   reach-len : length reach ≡ length reach₀
   marks-len : length marks ≡ length marks₀
@@ -48,7 +45,7 @@ abbrev μ-loop : tie.MeasureT-loop
 μ-loop b far reach marks₀ m from i j₀ g marks j = m - j
 
 abbrev Inv-rows : tie.InvT-rows
-Inv-rows b far₀ reach₀ marks₀ m from i₀ j₀ far reach marks i j = Searching (gatesIn b m) far₀ far reach₀ reach marks₀ marks m i
+Inv-rows b far₀ reach₀ marks₀ m from i₀ j₀ far reach marks i j = Searching b far₀ far reach₀ reach marks₀ marks m i
 
 abbrev μ-rows : tie.MeasureT-rows
 μ-rows b far₀ reach₀ marks₀ m from i₀ j₀ far reach marks i j = m - i
@@ -71,13 +68,13 @@ module _ (c : tie.In-rows Inv-loop μ-loop Inv-rows μ-rows) where
   row-inside = below (c .before .before .before .before .before .before .before .before .args .b .now) (c .before .before .before .before .before .before .before .before .args .m) (c .before .rows .i) (c .rows-test .taken)
 
   room : c .before .rows .i < length (c .before .rows .far)
-  room = omega (arith, row-inside, c .before .rows .inv .known .room)
+  room = omega (arith, row-inside, c .before .rows .inv .memory .known .room)
 
   real : isGap (gate (gates (c .before .before .before .before .before .before .before .before)) (c .before .rows .i)) ≡ false
-  real = row-real _ _ _ (c .before .rows .inv .known .rows _ row-inside) (c .before .rows .inv .unsure (c .rows-test .taken))
+  real = row-real _ _ _ (c .before .rows .inv .memory .known .rows _ row-inside) (c .before .rows .inv .unsure (c .rows-test .taken))
 
   row-gate : IsGate 6 (gate (gates (c .before .before .before .before .before .before .before .before)) (c .before .rows .i))
-  row-gate = holds-gate _ _ (c .before .before .before .before .before .before .before .before .pre .0) _ row-inside .real real
+  row-gate = holds-gate _ _ (c .before .before .before .before .before .before .before .before .pre .holds) _ row-inside .real real
 
 -- the pair i, j
 module _ (c : tie.In-loop Inv-loop μ-loop Inv-rows μ-rows) where
@@ -112,35 +109,31 @@ module _ (c : tie.Left-loop Inv-loop μ-loop Inv-rows μ-rows) where
       let pair : tie.After-word2 Inv-loop μ-loop Inv-rows μ-rows = record { before = inner; word2 = w .1 } in
       let may : tie.After-may-change Inv-loop μ-loop Inv-rows μ-rows = record { before = pair; may-change = w .2 } in
       let shut : mayChange (gate (gates (c .before .before .before .before .before .before .before .before .before .before .before .before)) (c .before .before .before .before .before .rows .i)) (gate (gates (c .before .before .before .before .before .before .before .before .before .before .before .before)) (c .before .loop .j)) ≡ false = may-is may ∙ not-true _ (w .3 .taken) in
-      record { unfit = λ l. shut-unfit _ _ (row-gate (c .before .before .before .before)) (holds-gate _ _ (c .before .before .before .before .before .before .before .before .before .before .before .before .pre .0) _ l) shut; shut = λ l. shut })
+      record { unfit = λ l. shut-unfit _ _ (row-gate (c .before .before .before .before)) (holds-gate _ _ (c .before .before .before .before .before .before .before .before .before .before .before .before .pre .holds) _ l) shut; shut = λ l. shut })
       (c .loop-test .came)
 
   stopped : Known (gates (c .before .before .before .before .before .before .before .before .before .before .before .before)) (set (c .before .before .before .before .before .rows .far) (c .before .before .before .before .before .rows .i) (c .before .loop .j + 16384))
   stopped =
-      known-stops _ _ _ _ (row-inside (c .before .before .before .before)) (omega (arith, count (c .before .before .before .before .before .before .before .before .before .before .before .before), c .before .before .before .before .before .before .before .before .before .before .before .before .pre .1 .0)) (c .before .before .before .before .before .rows .inv .known) (real (c .before .before .before .before)) (c .before .loop .inv .clear) stops
+      known-stops _ _ _ _ (row-inside (c .before .before .before .before)) (omega (arith, count (c .before .before .before .before .before .before .before .before .before .before .before .before), c .before .before .before .before .before .before .before .before .before .before .before .before .pre .most)) (c .before .before .before .before .before .rows .inv .memory .known) (real (c .before .before .before .before)) (c .before .loop .inv .clear) stops
 
   near : c .before .loop .j ≤ 8000
-  near = omega (arith, count (c .before .before .before .before .before .before .before .before .before .before .before .before), c .before .before .before .before .before .before .before .before .before .before .before .before .pre .1 .0, c .before .loop .inv .clear .inside)
+  near = omega (arith, count (c .before .before .before .before .before .before .before .before .before .before .before .before), c .before .before .before .before .before .before .before .before .before .before .before .before .pre .most, c .before .loop .inv .clear .inside)
 
 next-row-requires : tie.Need-next-row-requires Inv-loop μ-loop Inv-rows μ-rows
-next-row-requires c κs = (c .before .before .before .before .before .pre .1 .0 .0, omega (arith, count (c .before .before .before .before .before), c .before .before .before .before .before .pre .1 .0 .2 .room), c .before .before .before .before .before .pre .1 .0 .3)
+next-row-requires c κs = (c .before .before .before .before .before .pre .within, omega (arith, count (c .before .before .before .before .before), c .before .before .before .before .before .pre .known .room), c .before .before .before .before .before .pre .low)
 
 rows-holds : tie.Need-rows-holds Inv-loop μ-loop Inv-rows μ-rows
 rows-holds c =
     record {
-      within = c .next-row .ensures .1;
-      known = c .before .before .before .before .before .before .pre .1 .0 .2;
-      low = c .next-row .ensures .2;
+      memory = let w = c .before .before .before .before .before .before .pre in record { most = w .most; within = c .next-row .ensures .1; holds = w .holds; known = w .known; low = c .next-row .ensures .2; reached = w .reached; marked = w .marked };
       unsure = c .next-row .ensures .3;
-      reached = c .before .before .before .before .before .before .pre .1 .1 .0;
-      marked = c .before .before .before .before .before .before .pre .1 .1 .1;
       len = refl;
       reach-len = refl;
       marks-len = refl;
     }
 
 word-requires : tie.Need-word-requires Inv-loop μ-loop Inv-rows μ-rows
-word-requires c κs = (c .before .before .before .before .before .before .before .before .pre .0, c .rows-test .taken)
+word-requires c κs = (c .before .before .before .before .before .before .before .before .pre .holds, c .rows-test .taken)
 
 mul-j : tie.Need-mul-j Inv-loop μ-loop Inv-rows μ-rows
 mul-j c = search needs
@@ -154,26 +147,26 @@ cast-j c = omega (arith, c .before .before .before .rows .inv .unsure (c .before
 loop-holds : tie.Need-loop-holds Inv-loop μ-loop Inv-rows μ-rows
 loop-holds c =
     record {
-      clear = row-clear _ _ _ (c .before .before .before .rows .inv .known .rows _ (row-inside (c .before .before))) (c .before .before .before .rows .inv .unsure (c .before .before .rows-test .taken));
-      marked = c .before .before .before .rows .inv .marked;
+      clear = row-clear _ _ _ (c .before .before .before .rows .inv .memory .known .rows _ (row-inside (c .before .before))) (c .before .before .before .rows .inv .unsure (c .before .before .rows-test .taken));
+      marked = c .before .before .before .rows .inv .memory .marked;
       len = refl;
     }
 
 word-requires-2 : tie.Need-word-requires-2 Inv-loop μ-loop Inv-rows μ-rows
-word-requires-2 c κs = (c .before .before .before .before .before .before .before .before .before .before .before .before .pre .0, c .loop-test .taken)
+word-requires-2 c κs = (c .before .before .before .before .before .before .before .before .before .before .before .before .pre .holds, c .loop-test .taken)
 
 may-change-requires : tie.Need-may-change-requires Inv-loop μ-loop Inv-rows μ-rows
 may-change-requires c κs = (c .before .before .before .before .word .ensures .0, c .word2 .ensures .0)
 
 fits-places-requires : tie.Need-fits-places-requires Inv-loop μ-loop Inv-rows μ-rows
-fits-places-requires c κs = (c .before .before .before .before .before .before .before .before .before .before .before .before .before .before .before .pre .0, c .before .before .before .before .before .before .before .rows-test .taken, c .before .before .before .loop-test .taken)
+fits-places-requires c κs = (c .before .before .before .before .before .before .before .before .before .before .before .before .before .before .before .pre .holds, c .before .before .before .before .before .before .before .rows-test .taken, c .before .before .before .loop-test .taken)
 
 add-pass-stretches : tie.Need-add-pass-stretches Inv-loop μ-loop Inv-rows μ-rows
-add-pass-stretches c = omega (arith, c .before .before .before .before .before .before .loop-test .taken, c .before .before .before .before .before .before .before .before .before .before .before .before .before .before .before .before .before .before .pre .1 .0)
+add-pass-stretches c = omega (arith, c .before .before .before .before .before .before .loop-test .taken, c .before .before .before .before .before .before .before .before .before .before .before .before .before .before .before .before .before .before .pre .most)
 
 pass-stretches-requires : tie.Need-pass-stretches-requires Inv-loop μ-loop Inv-rows μ-rows
 pass-stretches-requires c κs = (
-  (c .before .before .before .before .before .before .before .before .before .before .before .before .before .before .before .before .before .before .pre .0, c .before .before .before .before .before .before .before .loop .inv .marked, c .before .before .before .before .before .before .before .before .before .before .before .before .before .before .before .before .before .before .pre .1 .0 .1),
+  (c .before .before .before .before .before .before .before .before .before .before .before .before .before .before .before .before .before .before .pre .holds, c .before .before .before .before .before .before .before .loop .inv .marked, c .before .before .before .before .before .before .before .before .before .before .before .before .before .before .before .before .before .before .pre .most),
   (real (c .before .before .before .before .before .before .before .before .before .before), clear-next _ _ _ (c .before .before .before .before .before .before .before .loop .inv .clear) (place-inside (c .before .before .before .before .before .before)) (fits-is (c .before .before) ∙ c .before .if2 .left) (may-is (c .before .before .before .before) ∙ not-false _ (c .before .before .before .if1 .left))),
 )
 
@@ -203,12 +196,12 @@ raise-reach-requires c κs =
     let small : (c .before .before .before .loop .j + 16384) % 16384 ≤ c .before .before .before .loop .j = omega (arith, near (c .before .before)) in (
       (
         c .before .before .before .before .before .before .rows-test .taken,
-        c .before .before .before .before .before .before .before .before .before .before .before .before .before .before .pre .1 .0 .1,
+        c .before .before .before .before .before .before .before .before .before .before .before .before .before .before .pre .most,
         omega (arith, near (c .before .before)),
         rw (getD-set-same (c .before .before .before .before .before .before .before .rows .far) (c .before .before .before .before .before .before .before .rows .i) (c .before .before .before .loop .j + 16384) 0 (room (c .before .before .before .before .before .before))) small,
-        c .before .before .before .before .before .before .before .rows .inv .reached .room,
+        c .before .before .before .before .before .before .before .rows .inv .memory .reached .room,
       ),
-      reach-others (c .before .before .before .before .before .before .before .rows .far) (c .before .before .before .before .before .before .before .rows .reach) (c .before .before .before .before .before .before .before .before .before .before .before .before .before .before .args .m) (c .before .before .before .before .before .before .before .rows .i) (c .before .before .before .loop .j + 16384) (c .before .before .before .before .before .before .before .rows .inv .reached),
+      reach-others (c .before .before .before .before .before .before .before .rows .far) (c .before .before .before .before .before .before .before .rows .reach) (c .before .before .before .before .before .before .before .before .before .before .before .before .before .before .args .m) (c .before .before .before .before .before .before .before .rows .i) (c .before .before .before .loop .j + 16384) (c .before .before .before .before .before .before .before .rows .inv .memory .reached),
     )
 
 add-next-row : tie.Need-add-next-row Inv-loop μ-loop Inv-rows μ-rows
@@ -218,7 +211,7 @@ next-row-requires-2 : tie.Need-next-row-requires-2 Inv-loop μ-loop Inv-rows μ-
 next-row-requires-2 c κs = (
   omega (arith, c .before .before .before .before .before .before .before .before .before .before .rows-test .taken),
   omega (arith, count (c .before .before .before .before .before .before .before .before .before .before .before .before .before .before .before .before .before .before), stopped (c .before .before .before .before .before .before) .room),
-  low-next (c .before .before .before .before .before .before .before .before .before .before .before .rows .far) (c .before .before .before .before .before .before .before .before .before .before .before .rows .i) (c .before .before .before .before .before .before .before .loop .j + 16384) (room (c .before .before .before .before .before .before .before .before .before .before)) (c .before .before .before .before .before .before .before .before .before .before .before .rows .inv .low) (omega arith),
+  low-next (c .before .before .before .before .before .before .before .before .before .before .before .rows .far) (c .before .before .before .before .before .before .before .before .before .before .before .rows .i) (c .before .before .before .before .before .before .before .loop .j + 16384) (room (c .before .before .before .before .before .before .before .before .before .before)) (c .before .before .before .before .before .before .before .before .before .before .before .rows .inv .memory .low) (omega arith),
 )
 
 rows-less : tie.Need-rows-less Inv-loop μ-loop Inv-rows μ-rows
@@ -227,12 +220,17 @@ rows-less c = omega (arith, c .next-row2 .ensures .0)
 rows-again : tie.Need-rows-again Inv-loop μ-loop Inv-rows μ-rows
 rows-again c =
     record {
-      within = c .next-row2 .ensures .1;
-      known = stopped (c .before .before .before .before .before .before .before);
-      low = c .next-row2 .ensures .2;
+      memory =
+          record {
+            most = c .before .before .before .before .before .before .before .before .before .before .before .before .rows .inv .memory .most;
+            within = c .next-row2 .ensures .1;
+            holds = c .before .before .before .before .before .before .before .before .before .before .before .before .rows .inv .memory .holds;
+            known = stopped (c .before .before .before .before .before .before .before);
+            low = c .next-row2 .ensures .2;
+            reached = c .before .before .before .before .raise-reach .ensures;
+            marked = c .before .before .before .before .before .before .before .before .loop .inv .marked;
+          };
       unsure = c .next-row2 .ensures .3;
-      reached = c .before .before .before .before .raise-reach .ensures;
-      marked = c .before .before .before .before .before .before .before .before .loop .inv .marked;
       len = simp length-set (c .before .before .before .before .before .before .before .before .before .before .before .before .rows .inv .len);
       reach-len = c .before .before .before .reach .given ∙ c .before .before .before .before .before .before .before .before .before .before .before .before .rows .inv .reach-len;
       marks-len = c .before .before .before .before .before .before .before .before .loop .inv .len ∙ c .before .before .before .before .before .before .before .before .before .before .before .before .rows .inv .marks-len;
@@ -250,14 +248,14 @@ same-length-3 c = c .before .rows .inv .marks-len
 returns : tie.Need-returns Inv-loop μ-loop Inv-rows μ-rows
 returns c =
     let end = c .rows-test .left in (
+      c .before .rows .inv .memory,
       record {
-        within = omega (arith, count (c .before .before .before .before .before .before .before .before), c .before .rows .inv .within);
+        within = omega (arith, count (c .before .before .before .before .before .before .before .before), c .before .rows .inv .memory .within);
         gate-i = λ l. absurd (omega (arith, count (c .before .before .before .before .before .before .before .before)));
         clear = λ l. absurd (omega (arith, count (c .before .before .before .before .before .before .before .before)));
         inside = λ l. absurd (omega (arith, count (c .before .before .before .before .before .before .before .before)));
         fit = λ l. absurd (omega (arith, count (c .before .before .before .before .before .before .before .before)));
       },
-      ((c .before .rows .inv .known, c .before .rows .inv .low), (c .before .rows .inv .reached, c .before .rows .inv .marked)),
     )
 
 same-length-4 : tie.Need-same-length-4 Inv-loop μ-loop Inv-rows μ-rows
@@ -270,16 +268,17 @@ same-length-6 : tie.Need-same-length-6 Inv-loop μ-loop Inv-rows μ-rows
 same-length-6 c = c .before .before .before .before .before .before .loop .inv .len ∙ c .before .before .before .before .before .before .before .before .before .before .rows .inv .marks-len
 
 returns-2 : tie.Need-returns-2 Inv-loop μ-loop Inv-rows μ-rows
-returns-2 c = (
-  record {
-    within = omega (arith, row-inside (c .before .before .before .before .before .before .before .before .before));
-    gate-i = λ l. real (c .before .before .before .before .before .before .before .before .before);
-    clear = λ l. c .before .before .before .before .before .before .loop .inv .clear;
-    inside = λ l. place-inside (c .before .before .before .before .before);
-    fit = λ l. fits-is (c .before) ∙ c .if2 .taken;
-  },
-  ((c .before .before .before .before .before .before .before .before .before .before .rows .inv .known, c .before .before .before .before .before .before .before .before .before .before .rows .inv .low), (c .before .before .before .before .before .before .before .before .before .before .rows .inv .reached, c .before .before .before .before .before .before .loop .inv .marked)),
-)
+returns-2 c =
+    let w = c .before .before .before .before .before .before .before .before .before .before .rows .inv .memory in (
+      record { most = w .most; within = w .within; holds = w .holds; known = w .known; low = w .low; reached = w .reached; marked = c .before .before .before .before .before .before .loop .inv .marked },
+      record {
+        within = omega (arith, row-inside (c .before .before .before .before .before .before .before .before .before));
+        gate-i = λ l. real (c .before .before .before .before .before .before .before .before .before);
+        clear = λ l. c .before .before .before .before .before .before .loop .inv .clear;
+        inside = λ l. place-inside (c .before .before .before .before .before);
+        fit = λ l. fits-is (c .before) ∙ c .if2 .taken;
+      },
+    )
 
 pub find-pair-spec : {M : Type 1} → statement M
 find-pair-spec =

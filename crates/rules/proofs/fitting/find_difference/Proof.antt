@@ -1,4 +1,4 @@
--- `rules::controls::find_difference` meets its contract: the first difference of what is left, from line k on, is the first. Assumes nothing.
+-- `rules::fitting::find_difference` meets its contract: the first difference of what is left, from line k on, is the first. Assumes nothing.
 use mathlib.Core.Path.{_≡_, sym, _∙_}
 use mathlib.Core.Bool.{Bool, true, false, not}
 use Prim.Native.Nat.{ℕ, _-_, _≤_}
@@ -9,8 +9,8 @@ use borrow.Author.Needs.{needs}
 use Rattle.ranges.specs.Ranges.{first}
 use Rattle.ranges.proofs.Searches.{first-more, first-hit, first-ends}
 use Rattle.digits.specs.Digits.{digit}
-use Rattle.rules.proofs.controls.find_difference.Statement.{statement}
-use Rattle.rules.proofs.controls.find_difference.Tie as tie
+use Rattle.rules.proofs.fitting.find_difference.Statement.{statement}
+use Rattle.rules.proofs.fitting.find_difference.Tie as tie
 
 abbrev test : ℕ → ℕ → ℕ → Bool
 test a b k = not (eqb (digit 4 k a) (digit 4 k b))
