@@ -150,12 +150,7 @@ fn price_on(lines: u8, value: u8, cascade: &[u8]) -> Priced
     let mut cost: u32 = 0;
     let mut i: usize = 0;
     while i < m {
-        let Record::Gate {
-            operator: _,
-            target: _,
-            controls,
-        } = gates::decode(lines, cascade, 8 * i)
-        else {
+        let Record::Gate { controls, .. } = gates::decode(lines, cascade, 8 * i) else {
             return Priced::Refused {
                 number: 7,
                 place: i,

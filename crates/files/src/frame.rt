@@ -67,12 +67,7 @@ pub fn gates_between(lines: u8, records: &[u8], at: usize, end: usize) -> Extent
     let count = records.len() / 8;
     let mut i: usize = 0;
     while i < count {
-        let Record::Gate {
-            operator: _,
-            target: _,
-            controls: _,
-        } = gates::decode(lines, records, 8 * i)
-        else {
+        let Record::Gate { .. } = gates::decode(lines, records, 8 * i) else {
             return Extent::Refused {
                 number: 7,
                 place: i,

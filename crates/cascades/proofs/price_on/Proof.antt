@@ -24,7 +24,6 @@ use Rattle.cascades.proofs.price_on.Tie as tie
 
 record Going (n v : ℕ) (b : List ℕ) (m cost i : ℕ) : Type 0 where
   passing : Passing n b m i
-  most : m ≤ 8000
   small : cost ≤ 85 * i
   value : cost + cascadePrice v (span (gateOf b) i (m - i)) ≡ cascadePrice v (span (gateOf b) 0 m)
 
@@ -62,7 +61,7 @@ returns : tie.Need-returns Inv-loop μ-loop
 returns c = sym (sound-length _ _ _ (sym (c .before .length-ok .ensures) ∙ not-true _ (c .if1 .taken)))
 
 loop-holds : tie.Need-loop-holds Inv-loop μ-loop
-loop-holds c = record { passing = passing-start _ _ _; most = omega (arith, length-is _ (whole c)); small = search needs; value = rw (zero-add, sub-zero) }
+loop-holds c = record { passing = passing-start _ _ _; small = search needs; value = rw (zero-add, sub-zero) }
 
 mul-decode : tie.Need-mul-decode Inv-loop μ-loop
 mul-decode c = search needs
@@ -87,7 +86,7 @@ price-gate-requires : tie.Need-price-gate-requires Inv-loop μ-loop
 price-gate-requires c κs = search needs
 
 add-cost : tie.Need-add-cost Inv-loop μ-loop
-add-cost c = record { fits = omega (arith, cheap c) }
+add-cost c = record { fits = omega (arith, cheap c, length-is _ (whole (c .before .before .before .before .before .before .before))) }
 
 add-i : tie.Need-add-i Inv-loop μ-loop
 add-i c = search needs
@@ -102,7 +101,6 @@ loop-again c =
     let lt = d .loop-test .taken in
     record {
       passing = passing-next _ _ _ _ lt (got (c .before) .is) (i .passing);
-      most = i .most;
       small = omega (arith, cheap c, i .small);
       value = rw (paid c, ← got (c .before) .value) (price-more _ _ _ _ _ lt) ∙ i .value;
     }

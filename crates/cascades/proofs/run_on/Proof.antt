@@ -60,7 +60,7 @@ returns : tie.Need-returns Inv-loop μ-loop
 returns c = sym (sound-length _ _ _ (sym (c .before .length-ok .ensures) ∙ not-true _ (c .if1 .taken)))
 
 quad-of-requires : tie.Need-quad-of-requires Inv-loop μ-loop
-quad-of-requires c κs = lt-of-lt-of-le (c .before .before .before .pre .1) (most c)
+quad-of-requires c κs = omega (arith, c .before .before .before .pre .1, most c)
 
 loop-holds : tie.Need-loop-holds Inv-loop μ-loop
 unfolding span
