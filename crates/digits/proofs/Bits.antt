@@ -7,7 +7,7 @@ use lib.Arith.{bin-ind}
 use lib.Bits.{bitAnd, bitOr, bitXor, and-step, or-step, and-zero-l, and-shr, and-mod, or-shr, or-mod, xor-shr, xor-mod}
 use Rattle.ranges.specs.Ranges.{sum}
 use Rattle.digits.specs.Digits.{digit, pack}
-use Rattle.digits.proofs.Digits.{digit-zero, digit-suc, digit-high, digits-equal}
+use Rattle.digits.proofs.Digits.{digit-zero, digit-suc, digit-high}
 
 module _ (op : ℕ → ℕ → ℕ) (shr : (a b k : ℕ) → op a b / 2 ^ k ≡ op (a / 2 ^ k) (b / 2 ^ k)) (low : (a b k : ℕ) → op a b % 2 ^ k ≡ op (a % 2 ^ k) (b % 2 ^ k)) where
   by-digits : (s k a b : ℕ) → digit (2 ^ s) k (op a b) ≡ op (digit (2 ^ s) k a) (digit (2 ^ s) k b)
@@ -30,12 +30,9 @@ byte-half (suc k) x =
     let same : x / 2 / 256 ≡ x / 256 / 2 = omega arith in
     rw (digit-suc, digit-suc, same) (byte-half k (x / 256))
 
--- 0 has no other digit than 0, and a number with no other digit is 0
+-- 0 has no other digit than 0
 pub digit-of-zero : (r k : ℕ) → 0 < r → digit r k 0 ≡ 0
 digit-of-zero r k pos = digit-high r 0 k 0 pos (rw pow-zero (omega arith)) (omega arith)
-
-pub zero-digits : (r m p : ℕ) → 0 < r → 0 < r ^ m → p < r ^ m → ((k : ℕ) → k < m → digit r k p ≡ 0) → p ≡ 0
-zero-digits r m p pos some lt h = digits-equal r m p 0 pos lt some (λ k l. h k l ∙ sym (digit-of-zero r k pos))
 
 -- six bytes are their sum and a multiple of 255
 pub bytes-sum : (f : ℕ → ℕ) → pack 256 f 6 ≡ sum f 0 6 + 255 * (f 1 + 257 * f 2 + 65793 * f 3 + 16843009 * f 4 + 4311810305 * f 5)

@@ -1,8 +1,8 @@
 -- The laws of `pack`: its digits are those packed, it has no others, and the digits of a number packed again give the number.
 -- They rest on `pack-front`, the lowest digit taken off. Assumes nothing.
 use mathlib.Core.Path.{_≡_, refl, sym, ap, _∙_}
-use Prim.Native.Nat.{ℕ, zero, suc, _+_, _*_, _^_, _≤_, _<_}
-use native.Mathlib.Nat.{zero-add, add-zero, add-mul, pow-zero, pow-succ', mul-add, mul-zero, mul-one, zero-mul, mul-left-comm, mul-le-mul-right}
+use Prim.Native.Nat.{ℕ, zero, suc, _+_, _*_, _^_, _<_}
+use native.Mathlib.Nat.{zero-add, add-zero, add-mul, pow-zero, pow-succ', mul-add, mul-zero, mul-one, zero-mul, mul-left-comm}
 use native.Mathlib.Decide.{ℕ-discrete}
 use native.Mathlib.Omega.{arith}
 use Rattle.ranges.specs.Ranges.{sum}
@@ -75,7 +75,3 @@ pack-replaced r f g k h (suc m) lt = rw (pack-suc, pack-suc) (go (pack-replaced 
     go : (k < m → pack r f m + g k * r ^ k ≡ pack r g m + f k * r ^ k) → Dec (m ≡ k) → pack r f m + f m * r ^ m + g k * r ^ k ≡ pack r g m + g m * r ^ m + f k * r ^ k
     go below (yes e) = rw (e, pack-ext r f g k (λ j l. h j (λ q. omega arith))) (omega arith)
     go below (no ne) = rw (h m ne) (omega (arith, below (omega arith)))
-
--- a bound by the highest digit
-pub pack-below : (r : ℕ) (f : ℕ → ℕ) (m c : ℕ) → ((k : ℕ) → k < m → f k < r) → f m ≤ c → pack r f (suc m) < r ^ m + c * r ^ m
-pack-below r f m c h le = rw pack-suc (omega (arith, pack-lt r f m h, mul-le-mul-right (r ^ m) le))

@@ -1,5 +1,5 @@
--- The inverse table of a permutation: it undoes the table on both sides (`inverse-entry`, `entry-inverse`), is a permutation itself, and is the only table
--- that undoes it (`inverse-only`). It rests on `onto`. Assumes nothing.
+-- The inverse table of a permutation: it undoes the table on both sides (`inverse-entry`, `entry-inverse`), and is a permutation itself. It rests on `onto`.
+-- Assumes nothing.
 use mathlib.Core.Path.{_≡_, refl, sym, ap, _∙_, subst}
 use mathlib.Core.List.{List}
 use Prim.Native.Nat.{ℕ, _^_, _<_}
@@ -7,7 +7,6 @@ use native.Mathlib.Nat.{zero-add}
 use native.Mathlib.Omega.{arith}
 use lib.Dec.{eqb}
 use lib.ListN.{length, getD}
-use lib.Seq.{ext-getD}
 use borrow.Author.Tests.{eq-eqb, ne-eqb}
 use Rattle.ranges.specs.Ranges.{first}
 use Rattle.ranges.proofs.Spans.{length-span, span-at}
@@ -16,7 +15,7 @@ use Rattle.tables.specs.Permutations.{Permutation, inverseTable}
 use Rattle.procedure.proofs.Pairs.{onto}
 
 module _ (r n : ℕ) (t : List ℕ) (pos : 0 < r) (perm : Permutation r n t) where
-  pub inverse-size : length (inverseTable r n t) ≡ r ^ n
+  inverse-size : length (inverseTable r n t) ≡ r ^ n
   unfolding inverseTable
   inverse-size = length-span (λ q. first (λ p. eqb (getD t p 0) q) 0 (r ^ n)) 0 (r ^ n)
 
@@ -55,9 +54,3 @@ module _ (r n : ℕ) (t : List ℕ) (pos : 0 < r) (perm : Permutation r n t) whe
         within = inverse-within;
         apart = λ p q lp lq e. sym (entry-inverse p lp) ∙ ap (λ (x : ℕ). getD t x 0) e ∙ entry-inverse q lq;
       }
-
-  -- a table that takes each entry back to its row is the inverse table
-  pub inverse-only : (v : List ℕ) → length v ≡ r ^ n → ((p : ℕ) → p < r ^ n → getD v (getD t p 0) 0 ≡ p) → v ≡ inverseTable r n t
-  inverse-only v size h =
-      ext-getD 0 v (inverseTable r n t) (size ∙ sym inverse-size)
-      (λ q lq. each-pattern (λ q. getD v q 0 ≡ getD (inverseTable r n t) q 0) (λ p lp. h p lp ∙ sym (inverse-entry p lp)) q (omega arith))

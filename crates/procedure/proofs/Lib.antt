@@ -4,6 +4,6 @@ pub mod Steps
 pub mod Differences
 pub mod Settles
 pub mod Bounds
+pub mod Swaps
 pub mod Pairs
 pub mod Inverses
-pub mod Swaps

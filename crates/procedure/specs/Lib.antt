@@ -1,1 +1,2 @@
 pub mod Procedure
+pub mod Exchanges

@@ -1,22 +1,20 @@
 -- How long a file's text is. A file is refused or holds a permutation (`file-is`), whose cascade has at most 4,010 gates.
 -- `sheet-most` bounds the text of any bytes, and `sheet-accepted` says that the program's room takes them all. Assumes nothing.
-use mathlib.Core.Path.{_≡_, refl, _∙_}
+use mathlib.Core.Path.{_≡_, _∙_}
 use mathlib.Core.Bool.{true, false}
 use mathlib.Core.Logic.{_⊎_}
 use mathlib.Core.List.{List, [], _∷_}
-use Prim.Native.Nat.{ℕ, _+_, _*_, _^_, _≤_, _<_}
+use Prim.Native.Nat.{ℕ, _+_, _*_, _^_, _≤_}
 use native.Mathlib.Omega.{arith}
-use lib.Dec.{eqb, leb}
+use lib.Dec.{eqb}
 use lib.ListN.{length}
-use borrow.Author.Tests.{eqb-true, eqb-false, leb-true, le-ltb}
-use Rattle.ranges.specs.Ranges.{every}
+use borrow.Author.Tests.{eqb-true, eqb-false, le-ltb}
 use Rattle.ranges.proofs.Bools.{decide}
-use Rattle.ranges.proofs.Tests.{every-below}
 use Rattle.card.specs.Card.{Answer.accepted, Answer.refused, linesOk}
 use Rattle.card.proofs.Cards.{lines-are, refusing-no}
 use Rattle.tables.specs.Permutations.{Permutation}
 use Rattle.tables.proofs.Accepts.{Refuses, tabled-is, tabled-permutation}
-use Rattle.synthesis.specs.Synthesis.{synthesized, bound}
+use Rattle.synthesis.specs.Synthesis.{synthesized}
 use Rattle.synthesis.proofs.Synthesis.{bound-most, synthesized-bound, synthesized-cascade}
 use Rattle.listings.proofs.Decimals.{width-most}
 use Rattle.listings.proofs.Lengths.{listing-lines}
@@ -47,15 +45,6 @@ file-is f = go (decide (linesOk (linesOf f))) (decide (eqb (length f) (1 + 2 * 3
         _⊎_.inl (record { number = r .number; place = r .place; is = file-whole f ok (eqb-true (length f) (1 + 2 * 3 ^ linesOf f) e) ∙ r .always (accepted []) })
     go (_⊎_.inl ok) (_⊎_.inl e) (_⊎_.inl perm) =
         _⊎_.inr (record { lines = ok; permutation = perm; is = file-whole f ok (eqb-true (length f) (1 + 2 * 3 ^ linesOf f) e) ∙ tabled-permutation (linesOf f) (entriesOf f) perm (accepted []) })
-
--- the cascade of a table on four lines or fewer has at most 284 gates, on five 1,094
-pub bound-four : (n : ℕ) → n < 5 → bound n ≤ 284
-unfolding every bound
-bound-four n lt = leb-true _ _ (every-below (λ n. leb (bound n) 284) 5 refl n lt)
-
-pub bound-five : (n : ℕ) → n < 6 → bound n ≤ 1094
-unfolding every bound
-bound-five n lt = leb-true _ _ (every-below (λ n. leb (bound n) 1094) 6 refl n lt)
 
 -- 31 bytes for each of 4,010 gates and for the head line
 pub sheet-most : (f : List ℕ) → length (sheetText f) ≤ 124341

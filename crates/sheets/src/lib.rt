@@ -26,69 +26,31 @@ fn tell(lines: u8, file: &[u8], table: &[u16], cascade: &mut [u8], room: &mut [u
     }
 }
 
-// The same, with a room of its own for 284 records: enough for four lines.
-fn with_few(lines: u8, file: &[u8], table: &[u16], room: &mut [u8]) -> Listed
-    requires { ⌜ (Holds (now file) lines (now table)) × (bound lines ≤ 284) ⌝ }
-    ensures { λ r. ⌜ listedAs r ≡ sheetAnswer (now (file .entry)) (length (now (room .entry))) ⌝ }
-    ensures { λ r. ⌜ now (room .exit) ≡ sheetRoom (now (file .entry)) (now (room .entry)) ⌝ }
-{
-    let mut cascade = [0u8; 2272];
-    tell(lines, file, table, &mut cascade, room)
-}
-
-// With one for 1,094: enough for five.
-fn with_more(lines: u8, file: &[u8], table: &[u16], room: &mut [u8]) -> Listed
-    requires { ⌜ (Holds (now file) lines (now table)) × (bound lines ≤ 1094) ⌝ }
-    ensures { λ r. ⌜ listedAs r ≡ sheetAnswer (now (file .entry)) (length (now (room .entry))) ⌝ }
-    ensures { λ r. ⌜ now (room .exit) ≡ sheetRoom (now (file .entry)) (now (room .entry)) ⌝ }
-{
-    let mut cascade = [0u8; 8752];
-    tell(lines, file, table, &mut cascade, room)
-}
-
-// With one for 4,010: enough for six.
-fn with_most(lines: u8, file: &[u8], table: &[u16], room: &mut [u8]) -> Listed
-    requires { ⌜ (Holds (now file) lines (now table)) × (bound lines ≤ 4010) ⌝ }
-    ensures { λ r. ⌜ listedAs r ≡ sheetAnswer (now (file .entry)) (length (now (room .entry))) ⌝ }
-    ensures { λ r. ⌜ now (room .exit) ≡ sheetRoom (now (file .entry)) (now (room .entry)) ⌝ }
-{
-    let mut cascade = [0u8; 32080];
-    tell(lines, file, table, &mut cascade, room)
-}
-
-// The same, with a cascade's room of its own. It starts as zeros, so a small table gets a small one.
-fn with_cascade(lines: u8, file: &[u8], table: &[u16], room: &mut [u8]) -> Listed
-    requires { ⌜ Holds (now file) lines (now table) ⌝ }
-    ensures { λ r. ⌜ listedAs r ≡ sheetAnswer (now (file .entry)) (length (now (room .entry))) ⌝ }
-    ensures { λ r. ⌜ now (room .exit) ≡ sheetRoom (now (file .entry)) (now (room .entry)) ⌝ }
-{
-    if lines < 5 {
-        return with_few(lines, file, table, room);
-    }
-    if lines < 6 {
-        return with_more(lines, file, table, room);
-    }
-    with_most(lines, file, table, room)
-}
-
 // The same, for the file's entries, read into a lent table.
-fn with_entries(lines: u8, file: &[u8], table: &mut [u16], room: &mut [u8]) -> Listed
-    requires { ⌜ (linesOk lines ≡ true) × (lines ≡ linesOf (now file)) × (length (now file) ≡ 1 + 2 * 3 ^ lines) × (length (now table) ≡ 3 ^ lines) ⌝ }
+fn tell_entries(
+    lines: u8,
+    file: &[u8],
+    table: &mut [u16],
+    cascade: &mut [u8],
+    room: &mut [u8],
+) -> Listed
+    requires { ⌜ (linesOk lines ≡ true) × (lines ≡ linesOf (now file)) × (length (now file) ≡ 1 + 2 * 3 ^ lines) × (length (now table) ≡ 3 ^ lines) × (length (now cascade) ≡ 32080) ⌝ }
     ensures { λ r. ⌜ listedAs r ≡ sheetAnswer (now (file .entry)) (length (now (room .entry))) ⌝ }
     ensures { λ r. ⌜ now (room .exit) ≡ sheetRoom (now (file .entry)) (now (room .entry)) ⌝ }
 {
     entries::read_entries(file, table);
-    with_cascade(lines, file, table, room)
+    tell(lines, file, table, cascade, room)
 }
 
-// The same, with a table of its own.
-fn with_table(lines: u8, file: &[u8], size: usize, room: &mut [u8]) -> Listed
+// The same, with a table and a cascade's room of its own: 729 entries and 4,010 records are enough for six lines.
+fn tell_file(lines: u8, file: &[u8], size: usize, room: &mut [u8]) -> Listed
     requires { ⌜ (linesOk lines ≡ true) × (lines ≡ linesOf (now file)) × (length (now file) ≡ 1 + 2 * 3 ^ lines) × (size ≡ 3 ^ lines) ⌝ }
     ensures { λ r. ⌜ listedAs r ≡ sheetAnswer (now (file .entry)) (length (now (room .entry))) ⌝ }
     ensures { λ r. ⌜ now (room .exit) ≡ sheetRoom (now (file .entry)) (now (room .entry)) ⌝ }
 {
     let mut table = [0u16; 729];
-    with_entries(lines, file, &mut table[..size], room)
+    let mut cascade = [0u8; 32080];
+    tell_entries(lines, file, &mut table[..size], &mut cascade, room)
 }
 
 // The text for a table file's bytes, into a room for bytes: the listing, or the line of refusal 1, 2, 3 or 4. Its own refusal is 5.
@@ -104,5 +66,5 @@ pub fn sheet(file: &[u8], room: &mut [u8]) -> Listed
     if file.len() != 1 + 2 * size {
         return refusals::refuse(file, 2, 0, room);
     }
-    with_table(lines, file, size, room)
+    tell_file(lines, file, size, room)
 }

@@ -1,19 +1,23 @@
--- The gate of the procedure: it is a gate on n lines, and it fires on a pattern exactly if every line but its target holds the digit of a. Assumes nothing.
-use mathlib.Core.Path.{_≡_, refl, _∙_}
+-- The gate of the procedure: it is a gate on n lines, and it fires on a pattern exactly if every line but its target holds the digit of a. Its controls are
+-- made from the digits of a, all at once (`controls-made`). Assumes nothing.
+use mathlib.Core.Path.{_≡_, refl, sym, _∙_}
 use mathlib.Core.Bool.{Bool, true, false, cond, _||_, or-true}
-use mathlib.Core.Logic.{_⊎_}
-use Prim.Native.Nat.{ℕ, _≤_, _<_}
+use mathlib.Core.Logic.{_⊎_, ⊎-elim}
+use Prim.Native.Nat.{ℕ, _+_, _-_, _*_, _%_, _^_, _≤_, _<_}
+use native.Mathlib.Nat.{add-zero}
 use native.Mathlib.Decide.{ℕ-discrete}
 use native.Mathlib.Omega.{arith}
 use lib.Dec.{eqb, leb}
-use borrow.Author.Tests.{eqb-true, eq-eqb, ne-eqb, le-leb, lt-leb}
+use borrow.Author.Tests.{eqb-true, eq-eqb, ne-eqb, leb-true, le-leb, lt-leb}
+use Rattle.ranges.specs.Ranges.{every, sum}
 use Rattle.ranges.proofs.Counts.{lt-or-le}
 use Rattle.ranges.proofs.Tests.{every-below, every-of}
-use Rattle.digits.specs.Digits.{digit}
-use Rattle.digits.proofs.Digits.{digit-lt}
-use Rattle.digits.proofs.Packs.{digit-pack, pack-lt}
+use Rattle.digits.specs.Digits.{digit, put, pack}
+use Rattle.digits.proofs.Digits.{digit-lt, digit-high, put-value}
+use Rattle.digits.proofs.Packs.{digit-pack, pack-lt, pack-add, pack-replaced}
 use Rattle.digits.proofs.Sizes.{three-pos}
 use Rattle.gates.specs.Gates.{control, holds, firesOn, fires, IsGate}
+use Rattle.gates.specs.Quads.{quad}
 use Rattle.gates.proofs.Gates.{holds-none}
 use Rattle.synthesis.specs.Synthesis.{controlFor, gateFor}
 use Rattle.synthesis.proofs.Exchangers.{exchanger-op}
@@ -90,3 +94,51 @@ module _ (n k a d : ℕ) where
     fires-gate p e j lt ne =
         let c : control (gateFor n k a d) j ≡ digit 3 j a = gate-control j (omega arith) ∙ control-line n k a j lt ne in
         equal-holds (digit 3 j a) (digit 3 j p) (digit-lt 3 j a three-pos) (rw c at (every-below _ 6 e j (omega arith)))
+
+-- ---- the controls as the code makes them: the digits of a, 3 added from line n up, and the one on line k replaced
+
+none : ℕ → ℕ → ℕ
+none n j = cond (leb n j) 3 0
+
+abbrev shift : ℕ → ℕ
+shift n = 1 * 2 ^ (2 * n) % 65536
+
+none-packed : (n : ℕ) → n ≤ 6 → (pack 4 (none n) 6 ≡ 4096 - shift n) × (shift n ≤ 4096)
+unfolding every pack sum none
+none-packed n lines = (
+  eqb-true (pack 4 (none n) 6) (4096 - shift n) (every-below (λ n. eqb (pack 4 (none n) 6) (4096 - shift n)) 7 refl n (omega arith)),
+  leb-true (shift n) 4096 (every-below (λ n. leb (shift n) 4096) 7 refl n (omega arith)),
+)
+
+module _ (n k a q : ℕ) (lines : n ≤ 6) (line : k < n) (below : a < 3 ^ n) (eq : q ≡ quad a) where
+  wide : ℕ → ℕ
+  wide j = digit 3 j a + none n j
+
+  wide-line : (j : ℕ) → j < n → wide j ≡ digit 3 j a
+  unfolding wide none
+  wide-line j lt = rw (lt-leb n j lt) (add-zero _)
+
+  wide-past : (j : ℕ) → n ≤ j → wide j ≡ 3
+  unfolding wide none
+  wide-past j le = rw (le-leb n j le, digit-high 3 n j a three-pos below le)
+
+  wide-lt : (j : ℕ) → j < 6 → wide j < 4
+  wide-lt j lt =
+      ⊎-elim (λ (l : j < n). rw (wide-line j l) (omega (arith, digit-lt 3 j a three-pos))) (λ (l : n ≤ j). rw (wide-past j l) (omega arith)) (lt-or-le j n)
+
+  wide-sum : q + (4096 - shift n) ≡ pack 4 wide 6
+  unfolding quad wide
+  wide-sum = omega (arith, eq, none-packed n lines .0, pack-add 4 (λ j. digit 3 j a) (none n) 6)
+
+  wide-else : (j : ℕ) → (j ≡ k → ⊥) → controlFor n k a j ≡ wide j
+  wide-else j ne =
+      ⊎-elim (λ (l : j < n). control-line n k a j l ne ∙ sym (wide-line j l)) (λ (l : n ≤ j). control-past n k a j l ∙ sym (wide-past j l)) (lt-or-le j n)
+
+  pub controls-fit : (shift n ≤ 4096) × (q + (4096 - shift n) < 4096)
+  controls-fit = (none-packed n lines .1, rw wide-sum (pack-lt 4 wide 6 wide-lt))
+
+  pub controls-made : put 4 k (q + (4096 - shift n)) 3 ≡ pack 4 (controlFor n k a) 6
+  controls-made =
+      let old = digit-pack 4 wide 6 wide-lt k (omega arith) in
+      rw wide-sum
+      (omega (arith, rw old at (put-value 4 k (pack 4 wide 6) 3), rw (control-target n k a) at (pack-replaced 4 (controlFor n k a) wide k wide-else 6 (omega arith))))

@@ -1,45 +1,47 @@
--- Words laid into a list from its end to its start: none, one, and a run before another. At last the list ends with them all. Assumes nothing.
+-- Words laid into a list from its end to its start: none, those of one digit, and a run before another. At last the list ends with them all, and their bytes
+-- are the cascade (`cascade-laid`). Assumes nothing.
 use mathlib.Core.Path.{_≡_, refl, sym, ap, _∙_}
-use mathlib.Core.List.{List, [], _∷_, _++_, map, map-append, append-nil, append-assoc}
-use Prim.Native.Nat.{ℕ, suc, _+_, _<_}
-use native.Mathlib.Nat.{add-zero}
+use mathlib.Core.List.{List, [], _∷_, _++_, map, flatMap, flatten, map-append, append-nil, append-assoc}
+use Prim.Native.Nat.{ℕ, suc, _+_, _-_, _*_, _≤_, _<_}
+use native.Mathlib.Nat.{le-refl, add-zero}
+use native.Mathlib.Numerals.{add-one}
 use native.Mathlib.Omega.{arith}
-use lib.ListN.{length, getD, set, drop, length-set, length-append}
-use lib.Seq.{drop-cons, drop-length, drop-set-lt, getD-set-same}
-use Rattle.digits.specs.Digits.{digit}
+use lib.ListN.{length, getD, set, take, drop, length-set, length-map, length-drop, length-append, drop-of-length-le}
+use lib.Seq.{sets, length-take-le, take-all, drop-cons, drop-length, drop-set-lt, getD-set-same}
+use Rattle.ranges.proofs.Stores.{sets-append}
+use Rattle.card.specs.Card.{laid}
+use Rattle.card.proofs.Cards.{sets-laid}
 use Rattle.gates.specs.declared.Gate.{Gate}
-use Rattle.gates.specs.Gates.{applied}
-use Rattle.procedure.specs.Procedure.{State, adding}
-use Rattle.procedure.proofs.Steps.{begun, step-same, step-other}
-use Rattle.synthesis.specs.Synthesis.{gateFor}
-use Rattle.synthesis.specs.Steps.{stepFrom, wordOf, Lays}
+use Rattle.gates.specs.Records.{recordOf}
+use Rattle.gates.specs.Words.{bytesIn}
+use Rattle.cascades.specs.Cascades.{bytesOf}
+use Rattle.cascades.proofs.Stored.{length-bytes}
+use Rattle.synthesis.specs.Steps.{Words, Lays}
+
+-- ---- runs
 
 pub lays-none : (e : ℕ) (ws : List ℕ) → Lays [] e e ws ws
 lays-none e ws = record { count = add-zero e; size = refl; words = refl }
 
--- ---- the gates of a digit: a word is laid before the end in either case
+pub words-count : (gs : List Gate) (ws : List ℕ) → Words gs ws → length ws ≡ length gs
+words-count gs ws w = sym (length-map ws bytesIn) ∙ ap length (w .bytes) ∙ length-map gs recordOf
 
-module _ (n i k : ℕ) (t : List ℕ) where
-  pub emits-none : (e j w : ℕ) (ws : List ℕ) → j < e → digit 3 k (getD t i 0) ≡ digit 3 k i → Lays (stepFrom n i k t .found) e e ws (set ws j w)
-  emits-none e j w ws lt q =
-      rw (step-same 3 applied gateFor n i k (begun t) q) (record { count = add-zero e; size = length-set ws j w; words = drop-set-lt e ws j w lt })
+-- the words l
+pub lays-words : (gs : List Gate) (e e′ : ℕ) (ws ws′ l : List ℕ) → Words gs l → length ws′ ≡ length ws → e + length l ≡ e′ → drop e ws′ ≡ l ++ drop e′ ws → Lays gs e e′ ws ws′
+lays-words gs e e′ ws ws′ l w long count is =
+    record {
+      count = omega (arith, words-count gs l w, count);
+      size = long;
+      words = ap (map bytesIn) is ∙ map-append bytesIn l (drop e′ ws) ∙ ap (λ (x : List (List ℕ)). x ++ map bytesIn (drop e′ ws)) (w .bytes);
+    }
 
-  module _ (ne : digit 3 k (getD t i 0) ≡ digit 3 k i → ⊥) where
-    one-gate : stepFrom n i k t .found ≡ gateFor n k (getD t i 0) (digit 3 k i) ∷ []
-    unfolding adding
-    one-gate = ap (λ (z : State Gate). z .found) (step-other 3 applied gateFor n i k (begun t) ne)
-
-    pub emits-one : (a e e′ w : ℕ) (ws : List ℕ) → a ≡ getD t i 0 → e + 1 ≡ e′ → e < length ws → w ≡ wordOf (gateFor n k a (digit 3 k i))
-        → Lays (stepFrom n i k t .found) e e′ ws (set ws e w)
-    emits-one a e e′ w ws ea q lt s =
-        let there : getD (set ws e w) e 0 ≡ w = getD-set-same ws e w 0 lt in
-        let beyond : drop (suc e) (set ws e w) ≡ drop (suc e) ws = drop-set-lt (suc e) ws e w (omega arith) in
-        let laid : drop e (set ws e w) ≡ w ∷ drop (suc e) ws = rw (there, beyond) at (drop-cons (set ws e w) e 0 (omega (arith, length-set ws e w))) in
-        let next : suc e ≡ e′ = omega (arith, q) in
-        rw (one-gate, ← ea, ← next)
-        (record { count = omega (arith, q); size = length-set ws e w; words = laid ∙ ap (λ (x : ℕ). x ∷ drop (suc e) ws) s })
-
--- ---- runs
+-- a word right before others
+pub word-laid : (w e : ℕ) (ws : List ℕ) → 1 ≤ e → e ≤ length ws → drop (e - 1) (set ws (e - 1) w) ≡ w ∷ drop e ws
+word-laid w e ws some le =
+    let next : suc (e - 1) ≡ e = omega arith in
+    let there : getD (set ws (e - 1) w) (e - 1) 0 ≡ w = getD-set-same ws (e - 1) w 0 (omega arith) in
+    let beyond : drop (suc (e - 1)) (set ws (e - 1) w) ≡ drop (suc (e - 1)) ws = drop-set-lt (suc (e - 1)) ws (e - 1) w (omega arith) in
+    rw (there, beyond, next) at (drop-cons (set ws (e - 1) w) (e - 1) 0 (omega (arith, length-set ws (e - 1) w)))
 
 -- a run before another
 pub lays-more : (gs hs : List Gate) (e e′ c : ℕ) (ws ws′ ws″ : List ℕ) → Lays gs e c ws ws′ → Lays hs e′ e ws′ ws″ → Lays (hs ++ gs) e′ c ws ws″
@@ -49,11 +51,45 @@ lays-more gs hs e e′ c ws ws′ ws″ w u =
       size = u .size ∙ w .size;
       words =
           u .words
-          ∙ ap (λ (x : List ℕ). map wordOf hs ++ x) (w .words)
-          ∙ sym (append-assoc (map wordOf hs) (map wordOf gs) (drop c ws))
-          ∙ ap (λ (x : List ℕ). x ++ drop c ws) (sym (map-append wordOf hs gs));
+          ∙ ap (λ (x : List (List ℕ)). map recordOf hs ++ x) (w .words)
+          ∙ sym (append-assoc (map recordOf hs) (map recordOf gs) (map bytesIn (drop c ws)))
+          ∙ ap (λ (x : List (List ℕ)). x ++ map bytesIn (drop c ws)) (sym (map-append recordOf hs gs));
     }
 
--- all of them
-pub lays-all : (gs : List Gate) (e : ℕ) (ws ws′ : List ℕ) → Lays gs e (length ws) ws ws′ → drop e ws′ ≡ map wordOf gs
-lays-all gs e ws ws′ w = w .words ∙ ap (λ (x : List ℕ). map wordOf gs ++ x) (drop-length ws) ∙ append-nil (map wordOf gs)
+-- ---- the bytes
+
+flat : (ws : List ℕ) → flatMap bytesIn ws ≡ flatten (map bytesIn ws)
+unfolding flatMap flatten
+flat [] = refl
+flat (w ∷ ws) = ap (λ (x : List ℕ). bytesIn w ++ x) (flat ws)
+
+bytes-flat : (gs : List Gate) → flatten (map recordOf gs) ≡ bytesOf gs
+unfolding bytesOf flatten
+bytes-flat [] = refl
+bytes-flat (g ∷ gs) = ap (λ (x : List ℕ). recordOf g ++ x) (bytes-flat gs)
+
+-- the words at a list's end are as many as the gates
+pub part-length : (gs : List Gate) (e : ℕ) (ws ws′ : List ℕ) → Lays gs e (length ws) ws ws′ → length (take (length ws′ - e) (drop e ws′)) ≡ length gs
+part-length gs e ws ws′ w = length-take-le (length ws′ - e) (drop e ws′) (rw (length-drop e ws′) (le-refl _)) ∙ omega (arith, w .count, w .size)
+
+-- the words of a cascade at a list's end, stored from the start of a room on, are the cascade
+pub cascade-laid : (gs : List Gate) (e : ℕ) (ws ws′ room : List ℕ) → Lays gs e (length ws) ws ws′ → 8 * length gs ≤ length room
+    → sets room 0 (flatMap bytesIn (take (length ws′ - e) (drop e ws′))) ≡ laid (bytesOf gs) room
+cascade-laid gs e ws ws′ room w fits =
+    let all : map bytesIn (drop e ws′) ≡ map recordOf gs = w .words ∙ ap (λ (x : List ℕ). map recordOf gs ++ map bytesIn x) (drop-length ws) ∙ append-nil (map recordOf gs) in
+    rw (take-all (length ws′ - e) (drop e ws′) (rw (length-drop e ws′) (le-refl _)), flat (drop e ws′), all, bytes-flat gs)
+    (sets-laid (bytesOf gs) room (rw (length-bytes gs) fits))
+
+-- ---- the loop that stores them: what is left to store
+
+module _ (room ws : List ℕ) (j : ℕ) where
+  pub store-more : j < length ws
+      → sets (sets room (8 * j) (bytesIn (getD ws j 0))) (8 * (j + 1)) (flatMap bytesIn (drop (j + 1) ws)) ≡ sets room (8 * j) (flatMap bytesIn (drop j ws))
+  unfolding flatMap bytesIn
+  store-more lt =
+      let e : 8 * (j + 1) ≡ 8 * j + length (bytesIn (getD ws j 0)) = omega arith in
+      rw (drop-cons ws j 0 lt, e, add-one) (sym (sets-append (bytesIn (getD ws j 0)) (flatMap bytesIn (drop (suc j) ws)) room (8 * j)))
+
+  pub store-ends : length ws ≤ j → sets room (8 * j) (flatMap bytesIn (drop j ws)) ≡ room
+  unfolding flatMap
+  store-ends le = rw (drop-of-length-le ws {i = j} le)

@@ -1,11 +1,8 @@
 pub mod Exchangers
 pub mod Controls
-pub mod Spreads
 pub mod Ternary
 pub mod Synthesis
+pub mod Pairings
 pub mod Moves
 pub mod Layings
-pub mod Words
-pub mod Copies
 pub mod Answers
-pub mod OneLines

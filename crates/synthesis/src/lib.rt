@@ -1,18 +1,13 @@
-// From table to cascade.
+// From table to cascade: the table is checked, room is asked, the gates are found, and their records written.
 ghost use mathlib.Core.Path.{_≡_};
-ghost use mathlib.Core.Bool.{true};
-ghost use Prim.Native.Nat.{_^_, _≤_};
-ghost use lib.ListN.{length, replicate};
-ghost use Rattle.card.specs.Card.{linesOk};
+ghost use Prim.Native.Nat.{_≤_};
+ghost use lib.ListN.{length};
 ghost use Rattle.cascades.specs.Answers.{countedAs};
 ghost use Rattle.synthesis.specs.Synthesis.{bound, synthesizeAnswer, synthesizeRoom};
-ghost use Rattle.synthesis.specs.Steps.{Unfit, Wrote};
 
-mod making;
+pub mod making;
 mod passes;
-mod settling;
-mod spreading;
-mod threes;
+pub mod settling;
 
 use cascades::Counted;
 use tables::Checked;
@@ -26,89 +21,43 @@ fn room_asked(n: usize) -> usize
     n * size - (size - 1) / 2
 }
 
-// What the functions that write a cascade answer where they wrote none, since the call is refused: no cascade has so many gates.
-// A plain number stays in a register. An answer of more parts would go through memory, and on one or two lines that takes longer than the work.
-const NONE: usize = 65535;
-
-// The cascade of a table of two lines or more, made with the help of a lent array that comes with 65,535 everywhere and takes the table's inverse.
-fn write_by(lines: u8, table: &[u16], inverse: &mut [u16], room: &mut [u8]) -> usize
-    requires { ⌜ linesOk lines ≡ true ⌝ }
-    requires { ⌜ 2 ≤ lines ⌝ }
-    requires { ⌜ now inverse ≡ replicate (3 ^ lines) 65535 ⌝ }
-    ensures { λ r. ⌜ Wrote lines (now (table .entry)) (now (room .entry)) r (now (room .exit)) ⌝ }
+// The call, with lent arrays: for the table's inverse, for the entries as the gates change them, and for the gates' words.
+fn synthesize_in(
+    lines: u8,
+    table: &[u16],
+    inverse: &mut [u16],
+    entries: &mut [u16],
+    words: &mut [u64],
+    room: &mut [u8],
+) -> Counted
+    requires { ⌜ (length (now inverse) ≡ 729) × (length (now entries) ≡ 729) × (length (now words) ≡ 4010) ⌝ }
+    ensures { λ r. ⌜ countedAs r ≡ synthesizeAnswer lines (now (table .entry)) (length (now (room .entry))) ⌝ }
+    ensures { λ _. ⌜ now (room .exit) ≡ synthesizeRoom lines (now (table .entry)) (now (room .entry)) ⌝ }
 {
-    let n = lines as usize;
-    if !tables::is_inverted(n, table, inverse) {
-        return NONE;
-    }
-    if room.len() / 8 < room_asked(n) {
-        return NONE;
-    }
-    passes::write_gates(n, table, inverse, room)
-}
-
-// The cascade of a table of one line. Its six tables are told apart by two entries, and need no arrays.
-fn write_one_line(table: &[u16], room: &mut [u8]) -> usize
-    ensures { λ r. ⌜ Wrote 1 (now (table .entry)) (now (room .entry)) r (now (room .exit)) ⌝ }
-{
-    if let Checked::Refused {
-        number: _,
-        place: _,
-    } = tables::check_table(1, table) {
-        return NONE;
-    }
-    if room.len() / 8 < 2 {
-        return NONE;
-    }
-    threes::write_gates(table[0], table[1], room)
-}
-
-// The cascade of a table of any number of lines, each with an array of its own size. A slice is lent on as a new one, since the compiler copies the old
-// one's two halves by one load, which has to wait for the two stores that made it.
-fn write_any(lines: u8, table: &[u16], room: &mut [u8]) -> usize
-    ensures { λ r. ⌜ Wrote lines (now (table .entry)) (now (room .entry)) r (now (room .exit)) ⌝ }
-{
-    match lines {
-        1 => write_one_line(table, room),
-        2 => {
-            let mut inverse = [65535u16; 9];
-            write_by(2, &table[..], &mut inverse, room)
-        }
-        3 => {
-            let mut inverse = [65535u16; 27];
-            write_by(3, &table[..], &mut inverse, room)
-        }
-        4 => {
-            let mut inverse = [65535u16; 81];
-            write_by(4, &table[..], &mut inverse, room)
-        }
-        5 => {
-            let mut inverse = [65535u16; 243];
-            write_by(5, &table[..], &mut inverse, room)
-        }
-        6 => {
-            let mut inverse = [65535u16; 729];
-            write_by(6, &table[..], &mut inverse, room)
-        }
-        _ => NONE,
-    }
-}
-
-// The refusal of a call that is refused: 1 to 4 of the table, and else 5.
-fn refuse(lines: u8, table: &[u16], room: usize) -> Counted
-    requires { ⌜ Unfit lines (now table) room ⌝ }
-    ensures { λ r. ⌜ countedAs r ≡ synthesizeAnswer lines (now (table .entry)) room ⌝ }
-{
-    if let Checked::Refused { number, place } = tables::check_table(lines, table) {
+    if let Checked::Refused { number, place } = tables::check_inverting(lines, table, inverse) {
         return Counted::Refused {
             number: number,
             place: place,
         };
     }
-    Counted::Refused {
-        number: 5,
-        place: room_asked(lines as usize),
+    let n = lines as usize;
+    let asked = room_asked(n);
+    if room.len() / 8 < asked {
+        return Counted::Refused {
+            number: 5,
+            place: asked,
+        };
     }
+    let size = table.len();
+    let gates = passes::write_cascade(
+        n,
+        table,
+        &mut inverse[..size],
+        &mut entries[..size],
+        words,
+        room,
+    );
+    Counted::Gates(gates)
 }
 
 // The cascade of a table, written to the start of the room. The answer is its number of gates, or a refusal 1 to 5.
@@ -116,10 +65,8 @@ pub fn synthesize(lines: u8, table: &[u16], room: &mut [u8]) -> Counted
     ensures { λ r. ⌜ countedAs r ≡ synthesizeAnswer lines (now (table .entry)) (length (now (room .entry))) ⌝ }
     ensures { λ _. ⌜ now (room .exit) ≡ synthesizeRoom lines (now (table .entry)) (now (room .entry)) ⌝ }
 {
-    let size = room.len();
-    let gates = write_any(lines, table, room);
-    if gates < NONE {
-        return Counted::Gates(gates);
-    }
-    refuse(lines, &table[..], size)
+    let mut inverse = [0u16; 729];
+    let mut entries = [0u16; 729];
+    let mut words = [0u64; 4010];
+    synthesize_in(lines, table, &mut inverse, &mut entries, &mut words, room)
 }

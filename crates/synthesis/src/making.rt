@@ -1,21 +1,11 @@
-// What is made of one digit of a row: the entry that is to stand there, and the gate, as the number whose bytes are its record.
+// The gate that is added for a digit.
 ghost use mathlib.Core.Path.{_≡_};
-ghost use Prim.Native.Nat.{_+_, _^_, _<_};
-ghost use Rattle.digits.specs.Digits.{digit, put};
+ghost use Prim.Native.Nat.{_^_, _≤_, _<_};
 ghost use Rattle.synthesis.specs.Synthesis.{exchanger, gateFor};
-ghost use Rattle.synthesis.specs.Steps.{spreadOf, noneFrom, Facing, wordOf};
+use gates::Gate;
 
-// The entry a with the digit of i on line k.
-pub fn entry_for(n: usize, i: usize, k: usize, a: u16, d: u64, c: u64, weight: u16) -> u16
-    requires { ⌜ Facing n i k a d c ⌝ }
-    requires { ⌜ weight ≡ 3 ^ k ⌝ }
-    ensures { λ r. ⌜ r ≡ put 3 k a (digit 3 k i) ⌝ }
-{
-    a - (d as u16) * weight + (c as u16) * weight
-}
-
-// The operator that exchanges two digit values.
-fn exchanger_of(x: u64, y: u64) -> u64
+// The operator among N, D, E that exchanges two digit values.
+fn exchanger_of(x: u16, y: u16) -> u8
     requires { ⌜ (x < 3) × (y < 3) ⌝ }
     ensures { λ r. ⌜ r ≡ exchanger x y ⌝ }
 {
@@ -28,11 +18,16 @@ fn exchanger_of(x: u64, y: u64) -> u64
     5
 }
 
-// The gate that exchanges digit k of a with that of i. Its controls are s, the digits of a and none from line n up, but none on line k.
-pub fn word_for(n: usize, i: usize, k: usize, a: u16, d: u64, c: u64, byte: u64, s: u64) -> u64
-    requires { ⌜ Facing n i k a d c ⌝ }
-    requires { ⌜ (byte ≡ 256 ^ k) × (s ≡ spreadOf a + noneFrom n) ⌝ }
-    ensures { λ r. ⌜ (k < n → r ≡ wordOf (gateFor n k a (digit 3 k i))) ⌝ }
+// The gate that exchanges digit k of a with d, where all other lines are as in a. Its controls are the digits of a, but none, 3, from line n up and on line k.
+pub fn gate_for(n: usize, k: usize, a: u16, d: u16) -> Gate
+    requires { ⌜ (n ≤ 6) × (k < n) × (a < 3 ^ n) × (d < 3) ⌝ }
+    ensures { λ r. ⌜ r ≡ gateFor n k a d ⌝ }
 {
-    exchanger_of(d, c) + 256 * (k as u64) + 65536 * (s - d * byte + 3 * byte)
+    let q = gates::quads::quad_of(a);
+    let lines: u16 = 1 << (2 * n);
+    Gate {
+        operator: exchanger_of(gates::controls::control_on(q, k), d),
+        target: k as u8,
+        controls: gates::controls::with_control(q + (4096 - lines), k, 3),
+    }
 }

@@ -31,6 +31,10 @@ none f m h =
     ⊎-elim (λ (e : ltb (first f 0 m) m ≡ true). let l = ltb-true (first f 0 m) m e in clash (f (first f 0 m)) (found f 0 m .hit (omega arith)) (h _ l))
     (λ (e : ltb (first f 0 m) m ≡ false). e) (decide (ltb (first f 0 m) m))
 
+-- a refusal accepts nothing
+pub never : {A : Type 0} (k p : ℕ) {vs : List ℕ} → refused k p ≡ accepted vs → A
+never k p e = let z : _≡_ {A = ℕ} 0 1 = cc in absurd (omega arith)
+
 -- ---- the cases of `tabled`
 
 -- the table is refused by number and place, whatever the call would answer
@@ -142,9 +146,7 @@ module _ (n : ℕ) (t : List ℕ) where
     where
       go : (linesOk n ≡ true) ⊎ (linesOk n ≡ false) → Permutation 3 n t ⊎ Refuses n t → onLines n (tabled n t x) ≡ refused k p
       go (_⊎_.inr bad) c = no-lines n _ bad ∙ sym (no-lines n _ bad) ∙ e
-      go (_⊎_.inl ok) (_⊎_.inl w) =
-          let a : refused k p ≡ accepted [] = sym e ∙ good-lines n _ ok ∙ tabled-permutation w (accepted []) in
-          let z : _≡_ {A = ℕ} 0 1 = cc in absurd (omega arith)
+      go (_⊎_.inl ok) (_⊎_.inl w) = never k p (sym e ∙ good-lines n _ ok ∙ tabled-permutation w (accepted []))
       go (_⊎_.inl ok) (_⊎_.inr r) = good-lines n _ ok ∙ r .always x ∙ sym (r .always (accepted [])) ∙ sym (good-lines n _ ok) ∙ e
 
   pub accepted-permutation : checkTableAnswer n t ≡ accepted [] → (linesOk n ≡ true) × Permutation 3 n t
@@ -152,13 +154,9 @@ module _ (n : ℕ) (t : List ℕ) where
   accepted-permutation e = go (decide (linesOk n)) tabled-is
     where
       go : (linesOk n ≡ true) ⊎ (linesOk n ≡ false) → Permutation 3 n t ⊎ Refuses n t → (linesOk n ≡ true) × Permutation 3 n t
-      go (_⊎_.inr bad) c =
-          let a : refused 1 0 ≡ accepted [] = sym (no-lines n _ bad) ∙ e in
-          let z : _≡_ {A = ℕ} 0 1 = cc in absurd (omega arith)
+      go (_⊎_.inr bad) c = never 1 0 (sym (no-lines n _ bad) ∙ e)
       go (_⊎_.inl ok) (_⊎_.inl w) = (ok, w)
-      go (_⊎_.inl ok) (_⊎_.inr r) =
-          let a : refused (r .number) (r .place) ≡ accepted [] = sym (r .always (accepted [])) ∙ sym (good-lines n _ ok) ∙ e in
-          let z : _≡_ {A = ℕ} 0 1 = cc in absurd (omega arith)
+      go (_⊎_.inl ok) (_⊎_.inr r) = never (r .number) (r .place) (sym (r .always (accepted [])) ∙ sym (good-lines n _ ok) ∙ e)
 
   pub permutation-passed : linesOk n ≡ true → Permutation 3 n t → (x : Answer) → onLines n (tabled n t x) ≡ x
   permutation-passed ok w x = good-lines n _ ok ∙ tabled-permutation w x

@@ -1,3 +1,2 @@
-pub mod Reached
-pub mod Marks
+pub mod Inverses
 pub mod Accepts

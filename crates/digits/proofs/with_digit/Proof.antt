@@ -25,15 +25,12 @@ facts p k d w x lk ld ew ex =
       value = rw (ew, ex);
     }
 
-module _ (c : tie.After-digit-of) where
-  known : Facts (c .before .before .args .p) (c .before .before .args .k) (c .before .before .args .d) (c .before .power .result) (c .digit-of .result)
-  known = facts _ _ _ _ _ (c .before .before .pre .1) (c .before .before .pre .2) (c .before .power .ensures) (c .digit-of .ensures)
+module _ (c : tie.After-power) where
+  known : Facts (c .before .args .p) (c .before .args .k) (c .before .args .d) (c .power .result) (c .before .args .x)
+  known = facts _ _ _ _ _ (c .before .pre .0) (c .before .pre .3) (c .power .ensures) (c .before .pre .1)
 
 power-requires : tie.Need-power-requires
 power-requires c κs = search needs
-
-digit-of-requires : tie.Need-digit-of-requires
-digit-of-requires c κs = search needs
 
 mul-result : tie.Need-mul-result
 mul-result c = omega (arith, known c)
@@ -55,7 +52,6 @@ with-digit-spec =
     tie.close
     (tie.spec
     power-requires
-    digit-of-requires
     mul-result
     sub-result
     mul-result-2

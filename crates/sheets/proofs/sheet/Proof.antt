@@ -58,8 +58,8 @@ same-length-2 c = search needs
 returns-2 : tie.Need-returns-2
 returns-2 c = search needs
 
-with-table-requires : tie.Need-with-table-requires
-with-table-requires c κs =
+tell-file-requires : tie.Need-tell-file-requires
+tell-file-requires c κs =
     let d = c .before .before .before in
     let p = c .before .before .power .ensures in
     (six d, d .before .before .lines-of .ensures, rw p at (c .before .if2 .left), p)
@@ -87,6 +87,6 @@ sheet-spec =
     refuse-requires-2
     same-length-2
     returns-2
-    with-table-requires
+    tell-file-requires
     same-length-3
     returns-3)

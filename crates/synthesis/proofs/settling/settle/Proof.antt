@@ -1,92 +1,107 @@
--- `synthesis::settling::settle` meets its contract: the stores are the gate with the entry in hand, or leave all as it is, and the word is the gate's, or stands
--- where nothing is looked at. Assumes nothing.
+-- `synthesis::settling::settle` meets its contract: the two digits are those of the procedure's step, and the gate it adds exchanges two values.
+-- Assumes nothing.
 use denote.Ref.{now}
-use mathlib.Core.Path.{_≡_, refl}
-use mathlib.Core.List.{List}
-use Prim.Native.Nat.{ℕ, _^_, _≤_, _<_}
-use lib.ListN.{length, getD, set, length-set}
+use mathlib.Core.Path.{_≡_, refl, sym, ap, _∙_}
+use mathlib.Core.List.{List, [], _∷_, map}
+use Prim.Native.Nat.{ℕ, _^_, _<_}
+use lib.ListN.{getD}
 use native.Mathlib.Omega.{arith}
-use Rattle.synthesis.proofs.Moves.{Sized, agree, entries-differ, line, held-sized, held-at, held-lt, held-new, held-row, held-step}
-use Rattle.synthesis.proofs.Layings.{emits-none, emits-one}
+use Rattle.digits.specs.Digits.{digit}
+use Rattle.digits.proofs.Sizes.{patterns-most}
+use Rattle.gates.specs.declared.Gate.{Gate}
+use Rattle.gates.specs.Records.{recordOf}
+use Rattle.gates.proofs.Firing.{digit-quad}
+use Rattle.procedure.specs.Procedure.{State}
+use Rattle.procedure.specs.Exchanges.{exchanged}
+use Rattle.synthesis.proofs.Pairings.{present-permutation}
+use Rattle.synthesis.proofs.Moves.{entry-lt, value-lt, changed-lt, step-not, step-gate, still, exchanged-there}
 use borrow.Author.Needs.{needs}
 use Rattle.synthesis.proofs.settling.settle.Statement.{statement}
 use Rattle.synthesis.proofs.settling.settle.Tie as tie
+use Rattle.digits.proofs.with_digit.Reads as with-digit-reads
+use Rattle.gates.proofs.controls.control_on.Reads as control-on-reads
+use Rattle.gates.proofs.quads.quad_of.Reads as quad-of-reads
+use Rattle.gates.proofs.words.word_of.Reads as word-of-reads
+use Rattle.synthesis.proofs.making.gate_for.Reads as gate-for-reads
+use Rattle.synthesis.proofs.settling.exchange.Reads as exchange-reads
 
--- what is known of the numbers: a is the entry in hand, b the one that is to stand there, y the row that has it
-record Facts (n i a b y end : ℕ) (t v ws : List ℕ) : Type 0 where
-  sizes : Sized n t v
-  row : i < 3 ^ n
-  old : a < 3 ^ n
-  new : b < 3 ^ n
-  other : y < 3 ^ n
-  some : 1 ≤ end
-  fits : end ≤ length ws
+-- the row and its entry are patterns
+module _ (c : tie.Start) where
+  abbrev a : ℕ
+  a = getD (now (c .args .table)) (c .args .i) 0
 
-module _ (s : tie.Start) where
-  abbrev given : List ℕ
-  given = now (s .args .table)
+  few : (c .args .i < 729) × (a < 729)
+  few =
+      let most = patterns-most _ (c .pre .0 .lines) in
+      (omega (arith, most, c .pre .1 .0), omega (arith, most, present-permutation _ _ _ (c .pre .0) .within (c .args .i) (c .pre .1 .0)))
 
-  abbrev table : List ℕ
-  table = set given (s .args .i) (s .args .a)
+-- x is the digit of the entry, d that of the row
+module _ (c : tie.After-control-on2) where
+  abbrev start : tie.Start
+  start = c .before .before .before .before .before .before .before
 
-  abbrev y : ℕ
-  y = getD (now (s .args .inverse)) (s .args .b) 0
+  line : start .args .k < 6
+  line = omega (arith, start .pre .0 .lines, start .pre .1 .1)
 
-  entry : s .args .a ≡ getD table (s .args .i) 0
-  entry = held-at _ _ _ given _ (s .pre .0) (s .pre .1 .0 .0)
+  x-is : c .before .before .control-on .result ≡ digit 3 (start .args .k) (a start)
+  x-is = c .before .before .control-on .ensures ∙ ap (digit 4 (start .args .k)) (c .before .before .before .quad-of .ensures) ∙ digit-quad (a start) (start .args .k) line
 
-  facts : Facts (s .args .n) (s .args .i) (s .args .a) (s .args .b) y (s .args .end) given (now (s .args .inverse)) (now (s .args .words))
-  facts =
-      let w = s .pre .0 in
-      let p = s .pre .1 .0 in
-      record {
-        sizes = held-sized _ _ _ given _ w;
-        row = p .0;
-        old = held-lt _ _ _ given _ w (p .0);
-        new = held-new _ _ _ given _ w (p .0) _ _ y (p .1) refl;
-        other = held-row _ _ _ given _ w (p .0) _ _ y (p .1) refl;
-        some = s .pre .1 .1 .1 .0;
-        fits = s .pre .1 .1 .1 .1;
-      }
+  d-is : c .control-on2 .result ≡ digit 3 (start .args .k) (start .args .i)
+  d-is = c .control-on2 .ensures ∙ ap (digit 4 (start .args .k)) (c .before .quad-of2 .ensures) ∙ digit-quad (start .args .i) (start .args .k) line
 
-mul-y : tie.Need-mul-y
-mul-y c = search needs
+  below : a start < 3 ^ (start .args .n)
+  below = entry-lt _ _ _ _ _ _ _ (start .pre .0) (start .pre .1 .0) (start .pre .1 .1) refl d-is
 
-slice-read-y : tie.Need-slice-read-y
-slice-read-y c = omega (arith, facts (c .before))
+  value : c .control-on2 .result < 3
+  value = value-lt _ _ _ _ _ _ _ (start .pre .0) (start .pre .1 .0) (start .pre .1 .1) refl d-is
 
-cast-table : tie.Need-cast-table
-cast-table c = omega (arith, facts (c .before))
+mul-a : tie.Need-mul-a
+mul-a c = search needs
 
-mul-table : tie.Need-mul-table
-mul-table c = omega (arith, facts (c .before))
+slice-read-a : tie.Need-slice-read-a
+slice-read-a c = search needs
 
-slice-write-table : tie.Need-slice-write-table
-slice-write-table c = omega (arith, facts (c .before))
+quad-of-requires : tie.Need-quad-of-requires
+quad-of-requires c κs = few (c .before .before .before) .1
 
-mul-inverse : tie.Need-mul-inverse
-mul-inverse c = search needs
+control-on-requires : tie.Need-control-on-requires
+control-on-requires c κs = search needs
 
-slice-write-inverse : tie.Need-slice-write-inverse
-slice-write-inverse c = omega (arith, facts (c .before))
+cast-quad-of : tie.Need-cast-quad-of
+cast-quad-of c = omega (arith, few (c .before .before .before .before .before) .0)
 
-cast-inverse : tie.Need-cast-inverse
-cast-inverse c = omega (arith, facts (c .before))
+quad-of-requires-2 : tie.Need-quad-of-requires-2
+quad-of-requires-2 c κs = few (c .before .before .before .before .before) .0
 
-mul-inverse-2 : tie.Need-mul-inverse-2
-mul-inverse-2 c = search needs
+control-on-requires-2 : tie.Need-control-on-requires-2
+control-on-requires-2 c κs = search needs
 
-slice-write-inverse-2 : tie.Need-slice-write-inverse-2
-slice-write-inverse-2 c = rw length-set (omega (arith, facts (c .before)))
+returns : tie.Need-returns
+returns c =
+    let s = start (c .before) in
+    let e = step-not _ _ _ _ _ _ _ (s .pre .0) (s .pre .1 .0) (s .pre .1 .1) refl (d-is (c .before)) (sym (x-is (c .before)) ∙ c .if1 .taken) in
+    (record { bytes = rw e refl }, still _ _ _ _ (s .pre .0) e)
 
-sub-next : tie.Need-sub-next
-sub-next c = omega (arith, facts (c .before))
+with-digit-requires : tie.Need-with-digit-requires
+with-digit-requires c κs = let d = c .before .before .before in (omega (arith, line d), x-is d, few (start d) .1, value d)
 
-mul-words : tie.Need-mul-words
-mul-words c = search needs
+exchange-requires : tie.Need-exchange-requires
+exchange-requires c κs =
+    let d = c .before .before .before .before in
+    let s = start d in
+    let size = s .pre .0 .size in (
+      s .pre .0 .pair,
+      (
+        omega (arith, size, below d),
+        omega (arith, size, c .with-digit .ensures, changed-lt _ _ _ _ _ _ _ (s .pre .0) (s .pre .1 .0) (s .pre .1 .1) refl (d-is d)),
+      ),
+    )
 
-slice-write-words : tie.Need-slice-write-words
-slice-write-words c = omega (arith, facts (c .before))
+gate-for-requires : tie.Need-gate-for-requires
+gate-for-requires c κs = let d = c .before .before .before .before .before .before .before .before .before in (start d .pre .0 .lines, start d .pre .1 .1, below d, value d)
+
+word-of-requires : tie.Need-word-of-requires
+word-of-requires c κs = search needs
 
 same-length : tie.Need-same-length
 same-length c = search needs
@@ -94,58 +109,33 @@ same-length c = search needs
 same-length-2 : tie.Need-same-length-2
 same-length-2 c = search needs
 
-same-length-3 : tie.Need-same-length-3
-same-length-3 c = search needs
-
-returns : tie.Need-returns
-returns c =
-    let s = c .before .before in
-    let p = s .pre .1 .0 in (
-      emits-none _ _ _ _ _ _ _ _ (omega (arith, facts s)) (agree _ _ _ _ _ _ _ (s .pre .0) (p .0) (entry s) (p .1) (c .if1 .taken)),
-      held-step _ _ _ (given s) _ (s .pre .0) (p .0) _ _ (y s) (p .1) refl,
-    )
-
-same-length-4 : tie.Need-same-length-4
-same-length-4 c = search needs
-
-same-length-5 : tie.Need-same-length-5
-same-length-5 c = search needs
-
-same-length-6 : tie.Need-same-length-6
-same-length-6 c = search needs
-
 returns-2 : tie.Need-returns-2
 returns-2 c =
-    let s = c .before .before in
-    let p = s .pre .1 .0 in
-    let ne = c .if1 .left in (
-      emits-one _ _ _ _ (entries-differ _ _ _ _ _ _ _ (s .pre .0) (p .0) (entry s) (p .1) ne) _ _ _ _ _ (entry s) (omega (arith, facts s)) (omega (arith, facts s))
-          (s .pre .1 .1 .0 (line _ _ _ _ _ _ _ (s .pre .0) (p .0) (entry s) (p .1) ne)),
-      held-step _ _ _ (given s) _ (s .pre .0) (p .0) _ _ (y s) (p .1) refl,
+    let d = c .before .before .before .before .before .before .before .before .before .before .before in
+    let s = start d in
+    let e = step-gate _ _ _ _ _ _ _ (s .pre .0) (s .pre .1 .0) (s .pre .1 .1) refl (d-is d) (λ q. c .before .before .before .before .before .before .before .before .before .before .if1 .left (x-is d ∙ q)) in
+    let moved = c .before .before .before .before .before .before .exchange .ensures in (
+      record { bytes = rw e (ap (λ (x : List ℕ). x ∷ []) (c .word-of .ensures ∙ ap recordOf (c .before .gate-for .ensures))) },
+      exchanged-there _ _ _ _ _ _ _ (s .pre .0)
+          (moved .0 ∙ ap (λ (b : ℕ). map (exchanged (a s) b) (now (s .args .table))) (c .before .before .before .before .before .before .before .with-digit .ensures)) (moved .1) (sym (ap (λ (z : State Gate). z .table) e)),
     )
 
 pub settle-spec : {M : Type 1} → statement M
 settle-spec =
     tie.close
     (tie.spec
-    mul-y
-    slice-read-y
-    cast-table
-    mul-table
-    slice-write-table
-    mul-inverse
-    slice-write-inverse
-    cast-inverse
-    mul-inverse-2
-    slice-write-inverse-2
-    sub-next
-    mul-words
-    slice-write-words
+    mul-a
+    slice-read-a
+    quad-of-requires
+    control-on-requires
+    cast-quad-of
+    quad-of-requires-2
+    control-on-requires-2
+    returns
+    with-digit-requires
+    exchange-requires
+    gate-for-requires
+    word-of-requires
     same-length
     same-length-2
-    same-length-3
-    returns
-    same-length-4
-    same-length-5
-    same-length-6
     returns-2)
