@@ -16,7 +16,7 @@ use Rattle.ranges.proofs.Tests.{every-below}
 use Rattle.digits.specs.Digits.{digit}
 use Rattle.digits.proofs.Digits.{digit-zero, shift-start, shift-digit, shift-next}
 use Rattle.gates.specs.Words.{byte, Word, bytesIn, gateOf}
-use Rattle.gates.proofs.Bytes.{length-word, byte-one, byte-high, operator-is, word-is, word-low, word-on}
+use Rattle.gates.proofs.Bytes.{length-word, byte-one, byte-high, operator-is, word-is, word-low}
 use Rattle.gates.proofs.Marks.{control-word}
 use Rattle.gates.proofs.Records.{reads}
 use Rattle.card.proofs.Cards.{lines-are}
@@ -124,7 +124,7 @@ pub word-gated : (n : ℕ) (b : List ℕ) (m i w : ℕ) → Whole n b m → i < 
 word-gated n b m i w whole lt read =
     let is = whole .each i lt in
     let word = sym (word-is b (8 * i) w read n (reads n b (8 * i) is .fits)) ∙ is in
-    record { op-high = omega (arith, operator-is b (8 * i) w read n is .1, digit-zero 256 w); on-line = omega (arith, word-on n w word, byte-one w, lines-are n (whole .lines) .1); low = word-low n w word }
+    record { op-high = omega (arith, operator-is b (8 * i) w read n is .1, digit-zero 256 w); on-line = omega (arith, reads n b (8 * i) is .on-line, read .bytes 1 (omega arith), byte-one w, lines-are n (whole .lines) .1); low = word-low n w word }
 
 -- ---- the loop over the controls
 
