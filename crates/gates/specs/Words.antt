@@ -1,5 +1,5 @@
 -- A record as one number, its first byte lowest: what is asked of its bytes is asked of all at once.
-use Prim.Native.Nat.{ℕ, _+_, _*_, _/_, _^_, _<_}
+use Prim.Native.Nat.{ℕ, _+_, _*_, _/_, _%_, _^_, _≤_, _<_}
 use mathlib.Core.Path.{_≡_}
 use mathlib.Core.Bool.{Bool, cond, _&&_}
 use mathlib.Core.List.{List, [], _∷_}
@@ -41,6 +41,13 @@ bare n t = 65536 * (3311470314243 / 256 ^ n * 256 ^ n + 3 * 256 ^ t)
 -- its control bytes are below 4, as a gate's are
 pub record Low (w : ℕ) : Type 0 where
   pub each : (k : ℕ) → k < 6 → byte (2 + k) w < 4
+
+-- what is known of the number that the record of a gate is, or of what stands where a gate has gone: operator 0 on line 6
+pub record GateWord (w : ℕ) : Type 0 where
+  pub small : w < 256 ^ 8
+  pub op-high : w % 256 ≤ 5
+  pub on-line : w / 256 % 256 ≤ 6
+  pub lines : Low w
 
 -- ---- six bytes at once: 1 for each of which something holds
 

@@ -17,7 +17,7 @@ use Rattle.digits.specs.Digits.{digit}
 use Rattle.digits.proofs.Digits.{digit-lt}
 use Rattle.gates.specs.declared.Gate.{Gate}
 use Rattle.gates.specs.Gates.{control, IsGate}
-use Rattle.gates.specs.Words.{byte, gateOf, controlMarks}
+use Rattle.gates.specs.Words.{byte, gateOf, GateWord, controlMarks}
 use Rattle.gates.proofs.Bytes.{operator-word, target-word}
 use Rattle.gates.proofs.Marks.{marks-counted, control-word}
 use Rattle.cascades.specs.Cascades.{Cascade}
@@ -25,7 +25,6 @@ use Rattle.cascades.specs.Prices.{cascadePrice}
 use Rattle.cascades.proofs.Costs.{cost-fits}
 use Rattle.listings.specs.Texts.{ascii, width, decimal}
 use Rattle.listings.specs.Listings.{joined, nameOf, lineText, controlText, gateText, gateTexts, headText, listingText}
-use Rattle.listings.specs.Pieces.{Gated}
 use Rattle.listings.proofs.Decimals.{length-decimal, width-le, width-small}
 use Rattle.listings.proofs.Layouts.{head-parts}
 
@@ -64,10 +63,10 @@ five-most true = omega arith
 five-most false = omega arith
 
 -- the line of a word's gate: as many controls as there are marks
-pub word-long : (w : ℕ) → Gated w → length (nameOf (w % 256)) + 4 + 5 * (controlMarks w % 255) ≡ length (gateText (gateOf w))
+pub word-long : (w : ℕ) → GateWord w → length (nameOf (w % 256)) + 4 + 5 * (controlMarks w % 255) ≡ length (gateText (gateOf w))
 unfolding sum
 word-long w g =
-    let one : (k : ℕ) → k < 6 → cond {A = ℕ} (eqb (control (gateOf w) k) 3) 0 5 ≡ 5 * cond (eqb (byte (2 + k) w) 3) 0 1 = λ k lt. rw (control-word w (g .low) k lt) (five (eqb (byte (2 + k) w) 3)) in
+    let one : (k : ℕ) → k < 6 → cond {A = ℕ} (eqb (control (gateOf w) k) 3) 0 5 ≡ 5 * cond (eqb (byte (2 + k) w) 3) 0 1 = λ k lt. rw (control-word w (g .lines) k lt) (five (eqb (byte (2 + k) w) 3)) in
     let l : length (gateText (gateOf w)) ≡ length (nameOf (w % 256)) + (4 + controlBytes (gateOf w)) = rw (← operator-word w) (length-gate (gateOf w) (omega (arith, g .on-line, target-word w))) in
     omega (arith, l, marks-counted w, one 0 (omega arith), one 1 (omega arith), one 2 (omega arith), one 3 (omega arith), one 4 (omega arith), one 5 (omega arith))
   where

@@ -15,7 +15,7 @@ use Rattle.ranges.proofs.Bools.{and-left, and-right, clash}
 use Rattle.ranges.proofs.Tests.{every-below}
 use Rattle.digits.specs.Digits.{digit}
 use Rattle.digits.proofs.Digits.{digit-zero, shift-start, shift-digit, shift-next}
-use Rattle.gates.specs.Words.{byte, Word, bytesIn, gateOf}
+use Rattle.gates.specs.Words.{byte, Word, bytesIn, gateOf, GateWord}
 use Rattle.gates.proofs.Bytes.{length-word, byte-one, byte-high, operator-is, word-is, word-low}
 use Rattle.gates.proofs.Marks.{control-word}
 use Rattle.gates.proofs.Records.{reads}
@@ -23,7 +23,7 @@ use Rattle.card.proofs.Cards.{lines-are}
 use Rattle.cascades.specs.Cascades.{Whole}
 use Rattle.listings.specs.Texts.{ascii, width, decimal}
 use Rattle.listings.specs.Listings.{joined, nameOf, lineText, controlText}
-use Rattle.listings.specs.Pieces.{begins, carries, nameRight, namesRight, Gated, Laid}
+use Rattle.listings.specs.Pieces.{begins, carries, nameRight, namesRight, Laid}
 use Rattle.listings.proofs.Layouts.{joined-snoc}
 use Rattle.listings.proofs.Lengths.{name-most}
 
@@ -74,9 +74,9 @@ laid-next {line} {text} {piece} {mid} {now} {at} s t =
 abbrev lineWord : ℕ → ℕ
 lineWord t = 3176480 + 65536 * t
 
-line-word : (t : ℕ) → t < 6 → carries (lineWord t) (lineText t) 3 ≡ true
+line-word : (t : ℕ) → t ≤ 6 → carries (lineWord t) (lineText t) 3 ≡ true
 unfolding carries begins lineText decimal width first span every digit bytesIn
-line-word t lt = every-below (λ t. carries (lineWord t) (lineText t) 3) 6 refl t lt
+line-word t le = every-below (λ t. carries (lineWord t) (lineText t) 3) 7 refl t (omega arith)
 
 -- ` x0=0` with the line and the value added to the digits, for the control c on line k
 abbrev controlWord : ℕ → ℕ → ℕ
@@ -112,7 +112,7 @@ module _ (names : List ℕ) (right : namesRight names ≡ true) where
     name-few = omega (arith, name-long, name-most o high)
 
     -- the name's word, and behind the name the target's
-    pub head-laid : (t : ℕ) (line : List ℕ) → t < 6 → length line ≡ 48
+    pub head-laid : (t : ℕ) (line : List ℕ) → t ≤ 6 → length line ≡ 48
         → Laid line 0 (nameOf o ++ lineText t) (sets (sets line 0 (bytesIn word)) (word / 72057594037927936) (bytesIn (lineWord t))) (word / 72057594037927936 + 3)
     head-laid t line lt long =
         laid-next (rw (zero-add (word / 72057594037927936)) at (laid-word word (nameOf o) (word / 72057594037927936) name-word line 0 (omega (arith, long))))
@@ -120,24 +120,24 @@ module _ (names : List ℕ) (right : namesRight names ≡ true) where
 
 -- ---- a word that was read from a cascade
 
-pub word-gated : (n : ℕ) (b : List ℕ) (m i w : ℕ) → Whole n b m → i < m → Word b (8 * i) w → Gated w
-word-gated n b m i w whole lt read =
+pub word-known : (n : ℕ) (b : List ℕ) (m i w : ℕ) → Whole n b m → i < m → Word b (8 * i) w → GateWord w
+word-known n b m i w whole lt read =
     let is = whole .each i lt in
     let word = sym (word-is b (8 * i) w read n (reads n b (8 * i) is .fits)) ∙ is in
-    record { op-high = omega (arith, operator-is b (8 * i) w read n is .1, digit-zero 256 w); on-line = omega (arith, reads n b (8 * i) is .on-line, read .bytes 1 (omega arith), byte-one w, lines-are n (whole .lines) .1); low = word-low n w word }
+    record { small = read .low; op-high = omega (arith, operator-is b (8 * i) w read n is .1, digit-zero 256 w); on-line = omega (arith, reads n b (8 * i) is .on-line, read .bytes 1 (omega arith), byte-one w, lines-are n (whole .lines) .1); lines = word-low n w word }
 
 -- ---- the loop over the controls
 
 -- those below line k are laid, and the bytes of the others are left
 pub record Going (w : ℕ) (line₀ : List ℕ) (at : ℕ) (line : List ℕ) (rest to k : ℕ) : Type 0 where
-  pub gated : Gated w
+  pub gated : GateWord w
   pub room : length line₀ ≡ 48
   pub within : k ≤ 6
   pub left : rest ≡ w / 65536 / 256 ^ k
   pub most : to ≤ 10 + 5 * k
   pub laid : Laid line₀ at (joined (span (controlText (gateOf w)) 0 k)) line to
 
-pub going-start : (w : ℕ) (line : List ℕ) (at : ℕ) → Gated w → length line ≡ 48 → at ≤ 10 → Going w line at line (w / 65536) at 0
+pub going-start : (w : ℕ) (line : List ℕ) (at : ℕ) → GateWord w → length line ≡ 48 → at ≤ 10 → Going w line at line (w / 65536) at 0
 unfolding joined span
 going-start w line at g e le =
     record { gated = g; room = e; within = omega arith; left = shift-start 256 (w / 65536); most = le; laid = record { starts = sym (append-nil (take at line)); behind = omega arith; long = refl } }
@@ -147,11 +147,11 @@ module _ (w : ℕ) (line₀ : List ℕ) (at : ℕ) (line : List ℕ) (rest to k 
   value-is = shift-digit 256 k (w / 65536) rest (g .left) ∙ byte-high k w
 
   pub value-small : rest % 256 < 4
-  value-small = rw value-is (g .gated .low .each k lt)
+  value-small = rw value-is (g .gated .lines .each k lt)
 
   text-is : controlText (gateOf w) k ≡ controlOn k (rest % 256)
   unfolding controlText controlOn
-  text-is = rw (control-word w (g .gated .low) k lt, value-is)
+  text-is = rw (control-word w (g .gated .lines) k lt, value-is)
 
   pub turn : Going w line₀ at (sets line to (bytesIn (controlWord k (rest % 256)))) (rest / 256) (to + (5 - 5 * (rest % 256 / 3))) (k + 1)
   turn =

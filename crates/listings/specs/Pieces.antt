@@ -1,5 +1,5 @@
 -- The line of a gate laid out by whole words: what the words of the names hold, and what is in a buffer or a room on the way.
-use Prim.Native.Nat.{ℕ, _+_, _/_, _%_, _≤_, _<_}
+use Prim.Native.Nat.{ℕ, _+_, _/_}
 use mathlib.Core.Path.{_≡_}
 use mathlib.Core.Bool.{Bool, true, false, _&&_}
 use mathlib.Core.List.{List, [], _∷_, _++_}
@@ -7,7 +7,7 @@ use lib.Dec.{eqb}
 use lib.ListN.{length, getD, take}
 use lib.Seq.{sets}
 use Rattle.ranges.specs.Ranges.{every}
-use Rattle.gates.specs.Words.{bytesIn, Low}
+use Rattle.gates.specs.Words.{bytesIn}
 use Rattle.listings.specs.Listings.{nameOf}
 
 -- bytes that begin with a text
@@ -26,12 +26,6 @@ nameRight names o = carries (getD names o 0) (nameOf o) (getD names o 0 / 720575
 
 unfoldable pub namesRight : List ℕ → Bool
 namesRight names = eqb (length names) 6 && every (nameRight names) 0 6
-
--- the word writes down a gate, on some board
-pub record Gated (w : ℕ) : Type 0 where
-  pub op-high : w % 256 ≤ 5
-  pub on-line : w / 256 % 256 < 6
-  pub low : Low w
 
 -- the text was laid behind the first at bytes of a line; what stands behind it does not count
 pub record Laid (line : List ℕ) (at : ℕ) (text now : List ℕ) (next : ℕ) : Type 0 where

@@ -6,9 +6,9 @@ ghost use mathlib.Core.List.{_++_};
 ghost use Prim.Native.Nat.{_/_, _%_, _≤_};
 ghost use lib.ListN.{length};
 ghost use Rattle.ranges.specs.Ranges.{span};
-ghost use Rattle.gates.specs.Words.{gateOf};
+ghost use Rattle.gates.specs.Words.{gateOf, GateWord};
 ghost use Rattle.listings.specs.Listings.{nameOf, lineText, controlText, joined, gateText};
-ghost use Rattle.listings.specs.Pieces.{namesRight, Gated, Laid};
+ghost use Rattle.listings.specs.Pieces.{namesRight, Laid};
 use gates::words;
 
 // The name of each operator from 0 on: its letters from the lowest byte up (43 is C, 31 and 32 are 1 and 2, 4e is N, 44 is D, 45 is E), and in the
@@ -24,7 +24,7 @@ pub const NAMES: [u64; 6] = [
 
 // The operator and the target. The second word is ` x0` from the lowest byte up (20, 78, 30), with the target added to the digit.
 fn put_head(names: &[u64], w: u64, line: &mut [u8]) -> usize
-    requires { ⌜ (namesRight (now names) ≡ true) × Gated w × (length (now line) ≡ 48) ⌝ }
+    requires { ⌜ (namesRight (now names) ≡ true) × GateWord w × (length (now line) ≡ 48) ⌝ }
     ensures { λ r. ⌜ Laid (now (line .entry)) 0 (nameOf (w % 256) ++ lineText (w / 256 % 256)) (now (line .exit)) r × (r ≤ 10) ⌝ }
 {
     let name = names[(w % 256) as usize];
@@ -37,7 +37,7 @@ fn put_head(names: &[u64], w: u64, line: &mut [u8]) -> usize
 // The controls, in rising line order. A word is ` x0=0` from the lowest byte up (20, 78, 30, 3d, 30), with the line and the value added to the digits;
 // where there is no control, which is the value 3, the next one is stored at the same place.
 fn put_controls(w: u64, line: &mut [u8], at: usize) -> usize
-    requires { ⌜ Gated w × (at ≤ 10) × (length (now line) ≡ 48) ⌝ }
+    requires { ⌜ GateWord w × (at ≤ 10) × (length (now line) ≡ 48) ⌝ }
     ensures { λ r. ⌜ Laid (now (line .entry)) at (joined (span (controlText (gateOf w)) 0 6)) (now (line .exit)) r × (r ≤ 40) ⌝ }
 {
     let mut rest = w / 65536;
@@ -56,7 +56,7 @@ fn put_controls(w: u64, line: &mut [u8], at: usize) -> usize
 
 // The line of the gate that a word writes down, from the start of the buffer on.
 pub fn put_gate(names: &[u64], w: u64, line: &mut [u8]) -> usize
-    requires { ⌜ (namesRight (now names) ≡ true) × Gated w × (length (now line) ≡ 48) ⌝ }
+    requires { ⌜ (namesRight (now names) ≡ true) × GateWord w × (length (now line) ≡ 48) ⌝ }
     ensures { λ r. ⌜ Laid (now (line .entry)) 0 (gateText (gateOf w)) (now (line .exit)) r × (r ≤ 41) ⌝ }
 {
     let aimed = put_head(names, w, line);

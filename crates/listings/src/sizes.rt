@@ -2,17 +2,17 @@
 ghost use mathlib.Core.Path.{_≡_};
 ghost use mathlib.Core.Bool.{true};
 ghost use lib.ListN.{length};
-ghost use Rattle.gates.specs.Words.{gateOf};
+ghost use Rattle.gates.specs.Words.{gateOf, GateWord};
 ghost use Rattle.cascades.specs.Cascades.{Whole, records, gatesOf};
 ghost use Rattle.cascades.specs.Prices.{cascadePrice};
 ghost use Rattle.listings.specs.Listings.{gateText, gateTexts, listingText};
-ghost use Rattle.listings.specs.Pieces.{namesRight, Gated};
+ghost use Rattle.listings.specs.Pieces.{namesRight};
 use super::numbers;
 use gates::words;
 
 // The bytes of a gate's line: the name's, three for the target, five for each control, and the newline.
 fn size_gate(names: &[u64], w: u64) -> usize
-    requires { ⌜ (namesRight (now names) ≡ true) × Gated w ⌝ }
+    requires { ⌜ (namesRight (now names) ≡ true) × GateWord w ⌝ }
     ensures { λ r. ⌜ r ≡ length (gateText (gateOf w)) ⌝ }
 {
     let name = names[(w % 256) as usize] / 0x0100_0000_0000_0000;

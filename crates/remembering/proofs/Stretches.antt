@@ -379,5 +379,5 @@ module _ (w : ℕ) (small : w < 256 ^ 8) (low : Low w) where
   against-word = ap₂ (λ (o t : ℕ). 16 * shunned (gateOf w) + otherPart o * 256 ^ t) (sym (operator-word w)) (sym (target-word w))
 
 -- a byte at the place of a line, or of a gap's target
-pub part-most : (d w : ℕ) → d < 256 → byte 1 w ≤ 6 → d * 256 ^ (w / 256 % 256) ≤ 71776119061217280
-part-most d w lt le = le-trans (mul-le-mul-left d (pow-le-pow-right {n = 256} (omega arith) {i = w / 256 % 256} {j = 6} (rw (← byte-one w) le))) (omega arith)
+pub part-most : (d w : ℕ) → d < 256 → w / 256 % 256 ≤ 6 → d * 256 ^ (w / 256 % 256) ≤ 71776119061217280
+part-most d w lt le = le-trans (mul-le-mul-left d (pow-le-pow-right {n = 256} (omega arith) {i = w / 256 % 256} {j = 6} le)) (omega arith)

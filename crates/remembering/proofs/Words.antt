@@ -7,14 +7,13 @@ use lib.ListN.{length, getD}
 use lib.Seq.{sets, length-sets}
 use Rattle.ranges.proofs.Stores.{getD-sets, getD-sets-below, getD-sets-above}
 use Rattle.digits.specs.Digits.{pack}
-use Rattle.digits.proofs.Digits.{digit-lt}
+use Rattle.digits.proofs.Digits.{digit-zero, digit-lt}
 use Rattle.digits.proofs.Packs.{pack-ext, pack-digits}
 use Rattle.gates.specs.declared.Gate.{Gate}
 use Rattle.gates.specs.Gates.{control}
 use Rattle.gates.specs.Records.{recordOf}
-use Rattle.gates.specs.Words.{byte, Word, bytesIn, gateOf}
-use Rattle.gates.proofs.Bytes.{byte-in, length-word}
-use Rattle.rules.specs.Words.{Written}
+use Rattle.gates.specs.Words.{byte, Word, bytesIn, gateOf, GateWord}
+use Rattle.gates.proofs.Bytes.{byte-in, byte-one, length-word}
 use Rattle.remembering.specs.Buffers.{Stands, Moved}
 
 -- record p, read and stored at place q
@@ -51,12 +50,12 @@ module _ (w : ℕ) (g : Gate) (is : bytesIn w ≡ recordOf g) (ok : Stands g) wh
       let c : pack 4 (λ k. byte (2 + k) w) 6 ≡ g .controls = pack-ext 4 (λ k. byte (2 + k) w) (control g) 6 line-is ∙ pack-digits 4 6 (g .controls) (omega arith) (ok .packed) in
       λ i. record { operator = o i; target = t i; controls = c i }
 
-  pub written-word : w < 256 ^ 8 → Written w
+  pub word-known : w < 256 ^ 8 → GateWord w
   unfolding recordOf
-  written-word small =
+  word-known small =
       record {
         small = small;
         lines = record { each = λ k l. rw (line-is k l) (digit-lt 4 k (g .controls) (omega arith)) };
-        op-high = rw (byte-is 0 (omega arith)) (ok .op-high);
-        on-line = rw (byte-is 1 (omega arith)) (ok .on-line);
+        op-high = rw (← digit-zero 256 w, byte-is 0 (omega arith)) (ok .op-high);
+        on-line = rw (← byte-one w, byte-is 1 (omega arith)) (ok .on-line);
       }

@@ -4,9 +4,8 @@ ghost use mathlib.Core.Bool.{true, false};
 ghost use Prim.Native.Nat.{_+_, _*_, _^_, _≤_, _<_};
 ghost use lib.Bits.{bitAnd};
 ghost use lib.ListN.{length, getD, set};
-ghost use Rattle.gates.specs.Words.{gateOf};
+ghost use Rattle.gates.specs.Words.{gateOf, GateWord};
 ghost use Rattle.rules.specs.Tidying.{gate};
-ghost use Rattle.rules.specs.Words.{Written};
 ghost use Rattle.remembering.specs.Buffers.{gatesIn, isGap, Stands, Holds};
 ghost use Rattle.remembering.specs.Rows.{Clear};
 ghost use Rattle.remembering.specs.Views.{shunned, ownPart, viewOf, otherPart, againstOf, sixBits, kindOf, allKinds, Seen, Passed, Marked};
@@ -17,7 +16,7 @@ pub const ALL: u64 = 0xffffffffffffffff;
 
 // For each line the types that upset the gate's control there: a control of 0, 1 or 2 comes to 11, 14 or 13, and none to 0.
 fn shun(w: u64) -> u64
-    requires { ⌜ Written w ⌝ }
+    requires { ⌜ GateWord w ⌝ }
     ensures { λ r. ⌜ (r ≡ shunned (gateOf w)) × (r < 256 ^ 6) ⌝ }
 {
     12 * gates::words::mark_controls(w) + 4 * gates::words::mark_others(w, 0)
@@ -48,7 +47,7 @@ fn other_part(o: u64) -> u64
 
 // What a gate is for others, and what it cannot pass.
 fn view(w: u64) -> u64
-    requires { ⌜ Written w ⌝ }
+    requires { ⌜ GateWord w ⌝ }
     ensures { λ r. ⌜ r ≡ viewOf (gateOf w) ⌝ }
 {
     shun(w) + own_part(w % 256) * gates::words::weight(w / 256 % 256)
@@ -56,7 +55,7 @@ fn view(w: u64) -> u64
 
 // What a view must not meet.
 fn against(w: u64) -> u64
-    requires { ⌜ Written w ⌝ }
+    requires { ⌜ GateWord w ⌝ }
     ensures { λ r. ⌜ r ≡ againstOf (gateOf w) ⌝ }
 {
     16 * shun(w) + other_part(w % 256) * gates::words::weight(w / 256 % 256)
@@ -72,7 +71,7 @@ fn fold_marks(a: u64) -> u64
 
 // The bit for the gate's control lines; a gap has none.
 fn kind(w: u64) -> u64
-    requires { ⌜ Written w ⌝ }
+    requires { ⌜ GateWord w ⌝ }
     ensures { λ r. ⌜ r ≡ kindOf (gateOf w) ⌝ }
 {
     if w % 256 == 0 {
@@ -84,7 +83,7 @@ fn kind(w: u64) -> u64
 // Record k.
 pub fn word(b: &[u8], m: usize, k: usize) -> u64
     requires { ⌜ Holds (now b) (gatesIn (now b) m) × (k < m) ⌝ }
-    ensures { λ r. ⌜ Written r × (gateOf r ≡ gate (gatesIn (now (b .entry)) m) k) ⌝ }
+    ensures { λ r. ⌜ GateWord r × (gateOf r ≡ gate (gatesIn (now (b .entry)) m) k) ⌝ }
 {
     gates::words::word_at(b, 8 * k)
 }

@@ -17,23 +17,23 @@ use Rattle.digits.proofs.Digits.{digit-zero, digit-high}
 use Rattle.digits.proofs.Packs.{pack-ext, pack-lt}
 use Rattle.digits.proofs.Bits.{bytes-sum}
 use Rattle.gates.specs.Gates.{control}
-use Rattle.gates.specs.Words.{byte, gateOf, Low, controlMarks, otherMarks}
+use Rattle.gates.specs.Words.{byte, gateOf, Low, GateWord, controlMarks, otherMarks}
 use Rattle.gates.proofs.Bytes.{byte-high, operator-word}
 use Rattle.gates.proofs.Marks.{control-mark, control-word}
 use Rattle.rules.specs.Rules.{sameLines, differAt, differences}
-use Rattle.rules.specs.Words.{Written, ruleFor, ruleBy}
+use Rattle.rules.specs.Words.{ruleFor, ruleBy}
 use Rattle.rules.proofs.Pairs.{rule-lines}
 
 -- ---- the operator, and a control
 
-pub operator-lt : (w : ℕ) → Written w → w % 256 < 6
-operator-lt w ok = rw (← digit-zero 256 w) (omega (arith, ok .op-high))
+pub operator-lt : (w : ℕ) → GateWord w → w % 256 < 6
+operator-lt w ok = omega (arith, ok .op-high)
 
-pub packed : (w : ℕ) → Written w → gateOf w .controls < 4 ^ 6
+pub packed : (w : ℕ) → GateWord w → gateOf w .controls < 4 ^ 6
 unfolding gateOf
 packed w ok = pack-lt 4 (λ k. byte (2 + k) w) 6 (ok .lines .each)
 
-pub control-in : (w t : ℕ) → Written w → t ≤ 6 → digit 256 t (w / 65536) ≡ control (gateOf w) t
+pub control-in : (w t : ℕ) → GateWord w → t ≤ 6 → digit 256 t (w / 65536) ≡ control (gateOf w) t
 control-in w t ok le =
     by-place (digit 256 t (w / 65536) ≡ control (gateOf w) t) 6 t (λ l. byte-high t w ∙ sym (control-word w (ok .lines) t l))
     (λ l.

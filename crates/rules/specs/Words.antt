@@ -1,20 +1,12 @@
--- What the contracts of inner functions alone cite: a gate as the number that its record is, and the rule that fits a pair.
-use Prim.Native.Nat.{ℕ, _^_, _<_, _≤_}
+-- What the contracts of inner functions alone cite: the rule that fits a pair.
+use Prim.Native.Nat.{ℕ}
 use mathlib.Core.Bool.{cond, _&&_}
 use lib.Dec.{eqb}
 use Rattle.gates.specs.declared.Gate.{Gate}
 use Rattle.gates.specs.Gates.{inverseOp}
-use Rattle.gates.specs.Words.{byte, Low}
 use Rattle.rules.specs.declared.fitting.Rule.{Rule}
 use Rattle.rules.specs.Places.{isC}
 use Rattle.rules.specs.Rules.{cancels, merges, reduces}
-
--- the number that the record of a gate is, or of what stands where a gate has gone: operator 0 on line 6
-pub record Written (w : ℕ) : Type 0 where
-  pub small : w < 256 ^ 8
-  pub lines : Low w
-  pub op-high : byte 0 w ≤ 5
-  pub on-line : byte 1 w ≤ 6
 
 -- the rule that fits
 unfoldable pub ruleFor : Gate → Gate → Rule

@@ -6,9 +6,9 @@ ghost use lib.Dec.{eqb};
 ghost use Rattle.ranges.specs.Ranges.{first};
 ghost use Rattle.digits.specs.Digits.{digit};
 ghost use Rattle.gates.specs.Gates.{inverse};
-ghost use Rattle.gates.specs.Words.{gateOf};
+ghost use Rattle.gates.specs.Words.{gateOf, GateWord};
 ghost use Rattle.rules.specs.Rules.{reduces, fits, loosened, retuned};
-ghost use Rattle.rules.specs.Words.{Written, ruleFor, ruleBy};
+ghost use Rattle.rules.specs.Words.{ruleFor, ruleBy};
 use gates::Gate;
 
 // The rules by name.
@@ -21,7 +21,7 @@ pub enum Rule {
 
 // One target, and operators that a rule takes.
 fn may_fit(g: u64, h: u64) -> bool
-    requires { ⌜ Written g × Written h ⌝ }
+    requires { ⌜ GateWord g × GateWord h ⌝ }
     ensures { λ r. ⌜ (r ≡ true → gateOf g .target ≡ gateOf h .target) × (r ≡ false → ruleFor (gateOf g) (gateOf h) ≡ Rule.Nothing) ⌝ }
 {
     if g / 256 % 256 != h / 256 % 256 {
@@ -58,7 +58,7 @@ fn rule_by(a: u8, b: u8, apart: u64) -> Rule
 // The rule that fits. Few pairs of gates get past the look at targets and operators, and only these are compared line by line; modulo 255 the bytes
 // that mark lines are counted.
 pub fn rule_for(g: u64, h: u64) -> Rule
-    requires { ⌜ Written g × Written h ⌝ }
+    requires { ⌜ GateWord g × GateWord h ⌝ }
     ensures { λ r. ⌜ r ≡ ruleFor (gateOf g) (gateOf h) ⌝ }
 {
     if !may_fit(g, h) {
@@ -73,7 +73,7 @@ pub fn rule_for(g: u64, h: u64) -> Rule
 
 // A rule fits.
 pub fn fits_pair(g: u64, h: u64) -> bool
-    requires { ⌜ Written g × Written h ⌝ }
+    requires { ⌜ GateWord g × GateWord h ⌝ }
     ensures { λ r. ⌜ r ≡ fits (gateOf g) (gateOf h) ⌝ }
 {
     match rule_for(g, h) {

@@ -3,10 +3,9 @@ ghost use mathlib.Core.Path.{_≡_};
 ghost use mathlib.Core.Bool.{cond, not};
 ghost use Prim.Native.Nat.{_≤_, _<_};
 ghost use lib.Dec.{eqb};
-ghost use Rattle.gates.specs.Words.{gateOf};
+ghost use Rattle.gates.specs.Words.{gateOf, GateWord};
 ghost use Rattle.gates.specs.Gates.{control};
 ghost use Rattle.rules.specs.Places.{isC, sameType, blocks, clashes, mayChange};
-ghost use Rattle.rules.specs.Words.{Written};
 
 // The operator is C1 or C2.
 pub fn is_c(o: u8) -> bool
@@ -17,7 +16,7 @@ pub fn is_c(o: u8) -> bool
 
 // The gate's control on line t.
 fn control_in(w: u64, t: u64) -> u64
-    requires { ⌜ Written w × (t ≤ 6) ⌝ }
+    requires { ⌜ GateWord w × (t ≤ 6) ⌝ }
     ensures { λ r. ⌜ (r ≡ control (gateOf w) t) × (r < 4) ⌝ }
 {
     (w / 65536 >> (8 * t)) % 256
@@ -29,7 +28,7 @@ const UPSETS: u64 = 0x365770;
 
 // 1 where the target of g is a control of h that g upsets, else 0.
 fn blocks_gate(g: u64, h: u64) -> u64
-    requires { ⌜ Written g × Written h ⌝ }
+    requires { ⌜ GateWord g × GateWord h ⌝ }
     ensures { λ r. ⌜ r ≡ cond (blocks (gateOf g) (gateOf h)) 1 0 ⌝ }
 {
     let v = control_in(h, g / 256 % 256);
@@ -57,7 +56,7 @@ fn as_one(x: u64, y: u64) -> u64
 
 // 1 where they have one target and are not of one type, else 0.
 fn targets_clash(g: u64, h: u64) -> u64
-    requires { ⌜ Written g × Written h ⌝ }
+    requires { ⌜ GateWord g × GateWord h ⌝ }
     ensures { λ r. ⌜ r ≡ cond (clashes (gateOf g) (gateOf h)) 1 0 ⌝ }
 {
     as_one(g / 256 % 256, h / 256 % 256) & types_apart(g % 256, h % 256)
@@ -65,7 +64,7 @@ fn targets_clash(g: u64, h: u64) -> u64
 
 // The gates may change places: there is none of three reasons against it. Each is a bit, looked up and not decided, so that none is a branch.
 pub fn may_change(g: u64, h: u64) -> bool
-    requires { ⌜ Written g × Written h ⌝ }
+    requires { ⌜ GateWord g × GateWord h ⌝ }
     ensures { λ r. ⌜ r ≡ mayChange (gateOf g) (gateOf h) ⌝ }
 {
     targets_clash(g, h) | blocks_gate(g, h) | blocks_gate(h, g) == 0

@@ -2,9 +2,9 @@
 ghost use mathlib.Core.Path.{_≡_};
 ghost use Prim.Native.Nat.{_≤_, _<_};
 ghost use lib.ListN.{set};
-ghost use Rattle.gates.specs.Words.{gateOf};
+ghost use Rattle.gates.specs.Words.{gateOf, GateWord};
 ghost use Rattle.rules.specs.Tidying.{ruled};
-ghost use Rattle.rules.specs.Words.{Written, ruleFor};
+ghost use Rattle.rules.specs.Words.{ruleFor};
 ghost use Rattle.remembering.specs.Buffers.{gatesIn, gap, Stands, kept, rank};
 ghost use Rattle.tidying.specs.Searches.{Remembers, PairAt, leftBy};
 use gates::Gate;
@@ -24,7 +24,7 @@ fn leave_gap() -> Gate
 
 // What the rule that fits leaves in the places of a pair, a gap where a gate goes.
 fn leave_pair(g: u64, h: u64) -> Left
-    requires { ⌜ Written g × Written h ⌝ }
+    requires { ⌜ GateWord g × GateWord h ⌝ }
     ensures { λ r. ⌜ r ≡ leftBy (ruleFor (gateOf g) (gateOf h)) (gateOf g) (gateOf h) ⌝ }
 {
     let first = gates::words::gate_of(g);

@@ -15,7 +15,7 @@ use Rattle.cascades.proofs.Cascades.{gateOf}
 use Rattle.listings.specs.Listings.{gateText, gateTexts}
 use Rattle.listings.proofs.Layouts.{gates-more, gates-end}
 use Rattle.listings.proofs.Lengths.{gate-most}
-use Rattle.listings.proofs.Lines.{word-gated}
+use Rattle.listings.proofs.Lines.{word-known}
 use Rattle.listings.proofs.sizes.size_gates.Statement.{statement}
 use Rattle.listings.proofs.sizes.size_gates.Tie as tie
 
@@ -60,7 +60,7 @@ word-at-requires c κs = omega (arith, c .before .before .before .before .pre .1
 size-gate-requires : tie.Need-size-gate-requires Inv-loop μ-loop
 size-gate-requires c κs =
     let start = c .before .before .before .before .before in
-    (start .pre .0, word-gated _ _ _ _ _ (start .pre .1) (c .before .loop-test .taken) (c .word-at .ensures))
+    (start .pre .0, word-known _ _ _ _ _ (start .pre .1) (c .before .loop-test .taken) (c .word-at .ensures))
 
 add-size : tie.Need-add-size Inv-loop μ-loop
 add-size c =

@@ -13,7 +13,7 @@ use Rattle.cascades.proofs.Cascades.{gateOf}
 use Rattle.listings.specs.Listings.{gateText, gateTexts}
 use Rattle.listings.specs.Pieces.{Writing}
 use Rattle.listings.proofs.Layouts.{gates-more, gates-end}
-use Rattle.listings.proofs.Lines.{word-gated}
+use Rattle.listings.proofs.Lines.{word-known}
 use Rattle.listings.proofs.Writes.{writing-start, writing-next, writing-end, piece-fits}
 use borrow.Author.Needs.{needs}
 use Rattle.listings.proofs.writing.write_gates.Statement.{statement}
@@ -56,7 +56,7 @@ word-at-requires c κs = omega (arith, c .before .before .before .before .before
 put-gate-requires : tie.Need-put-gate-requires Inv-loop μ-loop
 put-gate-requires c κs =
     let start = c .before .before .before .before .before .before .before .before in
-    (start .pre .0, word-gated _ _ _ _ _ (start .pre .1) (c .before .before .loop-test .taken) (c .before .word-at .ensures), c .before .before .before .loop .inv .line-long ∙ start .pre .2)
+    (start .pre .0, word-known _ _ _ _ _ (start .pre .1) (c .before .before .loop-test .taken) (c .before .word-at .ensures), c .before .before .before .loop .inv .line-long ∙ start .pre .2)
 
 slice-reshare-prefix-write-text : tie.Need-slice-reshare-prefix-write-text Inv-loop μ-loop
 slice-reshare-prefix-write-text c = end-within (c .before .before)

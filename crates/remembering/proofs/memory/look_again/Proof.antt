@@ -4,13 +4,12 @@ use Prim.Native.Nat.{_<_}
 use native.Mathlib.Omega.{arith}
 use lib.ListN.{length}
 use borrow.Author.Tests.{not-false}
-use Rattle.gates.specs.Words.{gateOf}
+use Rattle.gates.specs.Words.{gateOf, GateWord}
 use Rattle.rules.specs.Places.{mayChange}
 use Rattle.rules.specs.Rules.{fits}
-use Rattle.rules.specs.Words.{Written}
 use Rattle.remembering.specs.Buffers.{gatesIn}
 use Rattle.remembering.proofs.Buffers.{length-gates}
-use Rattle.remembering.proofs.Words.{gate-word, written-word}
+use Rattle.remembering.proofs.Words.{gate-word, word-known}
 use Rattle.remembering.proofs.Rows.{again-near, again-quiet, again-cut}
 use borrow.Author.Needs.{needs}
 use Rattle.remembering.proofs.memory.look_again.Statement.{statement}
@@ -24,8 +23,8 @@ module _ (c : tie.After-word-of) where
   same : gateOf (c .word-of .result) ≡ c .before .before .before .before .before .args .g
   same = gate-word _ _ (c .word-of .ensures) (c .before .before .before .before .before .pre .1 .3)
 
-  written : Written (c .word-of .result)
-  written = written-word _ _ (c .word-of .ensures) (c .before .before .before .before .before .pre .1 .3) (c .word-of .ok)
+  written : GateWord (c .word-of .result)
+  written = word-known _ _ (c .word-of .ensures) (c .before .before .before .before .before .pre .1 .3) (c .word-of .ok)
 
 cast-c : tie.Need-cast-c
 cast-c c = search needs

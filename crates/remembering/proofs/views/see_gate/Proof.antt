@@ -2,11 +2,10 @@
 use mathlib.Core.Path.{_≡_, ap, _∙_}
 use borrow.Author.Tests.{eq-eqb}
 use Rattle.ranges.proofs.Bools.{clash}
-use Rattle.gates.specs.Words.{gateOf}
-use Rattle.rules.specs.Words.{Written}
+use Rattle.gates.specs.Words.{gateOf, GateWord}
 use Rattle.remembering.specs.Buffers.{isGap}
 use Rattle.remembering.specs.Views.{againstOf, kindOf}
-use Rattle.remembering.proofs.Words.{gate-word, written-word}
+use Rattle.remembering.proofs.Words.{gate-word, word-known}
 use borrow.Author.Needs.{needs}
 use Rattle.remembering.proofs.views.see_gate.Statement.{statement}
 use Rattle.remembering.proofs.views.see_gate.Tie as tie
@@ -15,8 +14,8 @@ module _ (c : tie.After-word-of) where
   same : gateOf (c .word-of .result) ≡ c .before .before .before .args .g
   same = gate-word _ _ (c .word-of .ensures) (c .before .before .before .pre)
 
-  written : Written (c .word-of .result)
-  written = written-word _ _ (c .word-of .ensures) (c .before .before .before .pre) (c .word-of .ok)
+  written : GateWord (c .word-of .result)
+  written = word-known _ _ (c .word-of .ensures) (c .before .before .before .pre) (c .word-of .ok)
 
 returns : tie.Need-returns
 unfolding isGap

@@ -4,8 +4,8 @@ use Prim.Native.Nat.{ℕ, _*_, _<_}
 use native.Mathlib.Omega.{arith}
 use lib.ListN.{length}
 use Rattle.gates.specs.declared.Gate.{Gate}
-use Rattle.gates.specs.Words.{byte, gateOf}
-use Rattle.gates.proofs.Bytes.{control-byte, word-gate}
+use Rattle.gates.specs.Words.{gateOf}
+use Rattle.gates.proofs.Bytes.{control-byte, word-gate, operator-word, target-word}
 use Rattle.rules.specs.Tidying.{gate}
 use Rattle.remembering.specs.Buffers.{gatesIn}
 use Rattle.remembering.proofs.Buffers.{length-gates, gate-in, holds-fits, holds-gate, holds-lines}
@@ -15,15 +15,6 @@ use Rattle.remembering.proofs.views.word.Tie as tie
 module _ (c : tie.Start) where
   inside : c .args .k < length (gatesIn (c .args .b .now) (c .args .m))
   inside = rw (length-gates (c .args .b .now) (c .args .m)) (c .pre .1)
-
--- two bytes of the gate
-operator-is : (w : ℕ) → gateOf w .operator ≡ byte 0 w
-unfolding gateOf
-operator-is w = refl
-
-target-is : (w : ℕ) → gateOf w .target ≡ byte 1 w
-unfolding gateOf
-target-is w = refl
 
 mul-word-at : tie.Need-mul-word-at
 mul-word-at c = omega (arith, holds-fits _ _ (c .before .pre .0) _ (inside (c .before)))
@@ -40,8 +31,8 @@ returns c =
       record {
         small = c .word-at .ensures .low;
         lines = record { each = λ k l. rw (control-byte (c .before .before .args .b .now) (8 * c .before .before .args .k) (c .word-at .result) (c .word-at .ensures) k l) (holds-lines _ _ (c .before .before .pre .0) _ (inside (c .before .before)) k l) };
-        op-high = omega (arith, operator-is (c .word-at .result), ap (λ (g : Gate). g .operator) same, ok .op-high);
-        on-line = omega (arith, target-is (c .word-at .result), ap (λ (g : Gate). g .target) same, ok .on-line);
+        op-high = omega (arith, operator-word (c .word-at .result), ap (λ (g : Gate). g .operator) same, ok .op-high);
+        on-line = omega (arith, target-word (c .word-at .result), ap (λ (g : Gate). g .target) same, ok .on-line);
       },
       same,
     )

@@ -21,7 +21,7 @@ unfolding bitTest every upsets isC
 bit-is o v lo lv = eqb-true _ _ (every-below (bitTest o) 4 (every-below (λ x. every (bitTest x) 0 4) 6 refl o lo) v lv)
 
 control-in-requires : tie.Need-control-in-requires
-control-in-requires c κs = (c .pre .1, rw (← byte-one (c .args .g)) (c .pre .0 .on-line))
+control-in-requires c κs = (c .pre .1, c .pre .0 .on-line)
 
 mul-result : tie.Need-mul-result
 mul-result c = omega (arith, operator-lt _ (c .before .pre .0))
