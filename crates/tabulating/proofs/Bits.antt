@@ -1,16 +1,18 @@
--- The bits of words: what the operations of planes do at each bit. They rest on one step: bit i of an operation's result is the operation on the
--- bits i. Assumes nothing.
-use mathlib.Core.Path.{_≡_, refl, ap, _∙_}
+-- The bits of words: an operation of words is one of their bits (`on-and`, `on-or`, `on-xor`, `on-chosen`), and a power of 2 has one bit (`on-here`,
+-- `on-there`). Assumes nothing.
+use mathlib.Core.Path.{_≡_, refl}
 use mathlib.Core.Bool.{Bool, true, false, cond, not, xor, _&&_, _||_}
-use Prim.Native.Nat.{ℕ, zero, suc, _/_, _%_, _^_, _<_}
+use Prim.Native.Nat.{ℕ, zero, suc, _*_, _%_, _^_, _<_}
 use native.Mathlib.Omega.{arith}
-use lib.Bits.{bitAnd, bitOr, bitXor, and-shr, or-shr, xor-shr, and-mod, or-mod, xor-mod}
+use lib.Bits.{bitAnd, bitOr, bitXor}
 use lib.Dec.{eqb}
 use Rattle.ranges.specs.Ranges.{every}
 use Rattle.ranges.proofs.Tests.{every-below}
-use Rattle.digits.specs.Digits.{digit}
-use Rattle.digits.proofs.Digits.{digit-lt}
-use Rattle.tabulating.specs.Planes.{on, chosenWord, neitherWord}
+use borrow.Author.Tests.{eqb-true}
+use Rattle.digits.specs.Digits.{digit, put}
+use Rattle.digits.proofs.Bits.{digit-and, digit-or, digit-xor, digit-of-zero}
+use Rattle.digits.proofs.Digits.{digit-lt, digit-put-same, digit-put-other}
+use Rattle.tabulating.specs.Planes.{on}
 
 -- what holds at 0 and 1 holds at every bit
 two : (P : ℕ → Type 0) → P 0 → P 1 → (x : ℕ) → x < 2 → P x
@@ -18,7 +20,7 @@ two P a b zero l = a
 two P a b (suc zero) l = b
 two P a b (suc (suc x)) l = absurd (omega arith)
 
-pub bit-lt : (i w : ℕ) → digit 2 i w < 2
+bit-lt : (i w : ℕ) → digit 2 i w < 2
 bit-lt i w = digit-lt 2 i w (omega arith)
 
 -- a bit as a number
@@ -40,37 +42,20 @@ module _ (op : ℕ → ℕ → ℕ) (test : Bool → Bool → Bool)
       (two (λ y. eqb (op 1 y) 1 ≡ test true (eqb y 1)) tf tt (digit 2 i b) (bit-lt i b))
       (digit 2 i a) (bit-lt i a))
 
-digit-and : (i a b : ℕ) → digit 2 i (bitAnd a b) ≡ bitAnd (digit 2 i a) (digit 2 i b)
-unfolding digit
-digit-and i a b = ap (λ (x : ℕ). x % 2) (and-shr a b i) ∙ and-mod (a / 2 ^ i) (b / 2 ^ i) 1
-
-digit-or : (i a b : ℕ) → digit 2 i (bitOr a b) ≡ bitOr (digit 2 i a) (digit 2 i b)
-unfolding digit
-digit-or i a b = ap (λ (x : ℕ). x % 2) (or-shr a b i) ∙ or-mod (a / 2 ^ i) (b / 2 ^ i) 1
-
-digit-xor : (i a b : ℕ) → digit 2 i (bitXor a b) ≡ bitXor (digit 2 i a) (digit 2 i b)
-unfolding digit
-digit-xor i a b = ap (λ (x : ℕ). x % 2) (xor-shr a b i) ∙ xor-mod (a / 2 ^ i) (b / 2 ^ i) 1
-
 pub on-and : (i a b : ℕ) → on i (bitAnd a b) ≡ (on i a && on i b)
-on-and = on-op bitAnd _&&_ digit-and refl refl refl refl
+on-and = on-op bitAnd _&&_ (digit-and 1) refl refl refl refl
 
 pub on-or : (i a b : ℕ) → on i (bitOr a b) ≡ (on i a || on i b)
-on-or = on-op bitOr _||_ digit-or refl refl refl refl
+on-or = on-op bitOr _||_ (digit-or 1) refl refl refl refl
 
-pub on-xor : (i a b : ℕ) → on i (bitXor a b) ≡ xor (on i a) (on i b)
+on-xor : (i a b : ℕ) → on i (bitXor a b) ≡ xor (on i a) (on i b)
 unfolding xor
-on-xor = on-op bitXor xor digit-xor refl refl refl refl
-
--- all ones
-pub on-all : (i : ℕ) → i < 64 → on i 18446744073709551615 ≡ true
-unfolding on digit every
-on-all = every-below (λ i. on i 18446744073709551615) 64 refl
+on-xor = on-op bitXor xor (digit-xor 1) refl refl refl refl
 
 -- the bits of one word where the first has its bit, and of the other elsewhere
-pub on-chosen : (i fires moved old : ℕ) → on i (chosenWord fires moved old) ≡ cond (on i fires) (on i moved) (on i old)
-unfolding chosenWord xor
-on-chosen i fires moved old = rw (on-xor, on-and, on-xor) (go (on i fires) (on i moved) (on i old))
+pub on-chosen : (i f m o : ℕ) → on i (bitXor (bitAnd (bitXor m o) f) o) ≡ cond (on i f) (on i m) (on i o)
+unfolding xor
+on-chosen i f m o = rw (on-xor, on-and, on-xor) (go (on i f) (on i m) (on i o))
   where
     go : (f m o : Bool) → xor (xor m o && f) o ≡ cond f m o
     go true true true = refl
@@ -82,10 +67,37 @@ on-chosen i fires moved old = rw (on-xor, on-and, on-xor) (go (on i fires) (on i
     go false false true = refl
     go false false false = refl
 
-pub on-neither : (i a b : ℕ) → i < 64 → on i (neitherWord a b) ≡ not (on i a || on i b)
-unfolding neitherWord xor
-on-neither i a b lt = rw (on-xor, on-or, on-all i lt) (go (on i a || on i b))
+-- ---- all bits, none, and one
+
+-- the bits that neither word has
+pub on-neither : (i a b : ℕ) → i < 64 → on i (bitXor (bitOr a b) 18446744073709551615) ≡ not (on i a || on i b)
+unfolding xor
+on-neither i a b lt = rw (on-xor, on-or, on-all) (go (on i a || on i b))
   where
+    on-all : on i 18446744073709551615 ≡ true
+    on-all = unfold on digit every in every-below (λ i. on i 18446744073709551615) 64 refl i lt
+
     go : (x : Bool) → xor x true ≡ not x
     go true = refl
     go false = refl
+
+pub on-zero : (i : ℕ) → on i 0 ≡ false
+unfolding on
+on-zero i = rw (digit-of-zero 2 i (omega arith))
+
+one-put : (j : ℕ) → 2 ^ j ≡ put 2 j 0 1
+unfolding put
+one-put j = rw (digit-of-zero 2 j (omega arith)) (omega arith)
+
+pub on-here : (j : ℕ) → on j (2 ^ j) ≡ true
+unfolding on
+on-here j = rw (one-put j, digit-put-same 2 j 0 1 (omega arith))
+
+pub on-there : (i j : ℕ) → (i ≡ j → ⊥) → on i (2 ^ j) ≡ false
+unfolding on
+on-there i j ne = rw (one-put j, digit-put-other 2 i j 0 1 (omega arith) ne) (on-zero i)
+
+-- as it is made
+pub one-bit : (j : ℕ) → j < 64 → 1 * 2 ^ j % 18446744073709551616 ≡ 2 ^ j
+unfolding every
+one-bit j lt = eqb-true _ _ (every-below (λ j. eqb (1 * 2 ^ j % 18446744073709551616) (2 ^ j)) 64 refl j lt)

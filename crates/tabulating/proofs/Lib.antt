@@ -1,9 +1,5 @@
 pub mod Bits
-pub mod Parts
-pub mod Starts
-pub mod Runs
+pub mod Stored
 pub mod Turns
-pub mod Exchanges
-pub mod Gathers
-pub mod Lone
-pub mod Lanes
+pub mod Laying
+pub mod Shown

@@ -1,4 +1,2 @@
 pub mod Tabulating
 pub mod Planes
-pub mod Rows
-pub mod Bare

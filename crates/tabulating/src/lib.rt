@@ -3,10 +3,8 @@ ghost use mathlib.Core.Path.{_≡_};
 ghost use lib.ListN.{length};
 ghost use Rattle.tabulating.specs.Tabulating.{tabulatedAs, tabulateAnswer, tabulateRoom};
 
-mod bare;
 mod entries;
 mod planes;
-mod rows;
 mod untouched;
 pub mod whole;
 

@@ -1,252 +1,115 @@
-// All inputs at once. For each line and each control value there is a plane of bits, one for each input, set where the control is content with
-// what the line now holds. A gate is then a few operations on whole planes, 64 inputs to a word, with no branch that depends on the gate.
-//
-// Planes come in blocks of 243 inputs, those with one digit on the sixth line: one block for up to five lines, three for six. A block has
-// 96 words, line by line the planes for 0, 1, 2 and for no control, which is all ones, of four words each.
-//
-// A board of up to four lines is small: its 81 inputs take two words of a plane, and no gate on it has a control on the last two lines.
+// What all inputs hold, at once. A plane is a set of inputs: a bit for each, in 12 words, enough for the 729 patterns of six lines; input p has bit
+// p % 64 of word p / 64. For each line k and each control c (0, 1, 2, or 3 for none) there is a plane, number 4 k + c, of the inputs with which the
+// control is content; plane a stands from 12 a on. A gate is then a few operations on whole words.
 ghost use mathlib.Core.Path.{_≡_};
-ghost use mathlib.Core.Bool.{true, false};
 ghost use Prim.Native.Nat.{ℕ, _+_, _*_, _≤_, _<_};
 ghost use lib.ListN.{length, getD};
 ghost use lib.Seq.{sets};
-ghost use lib.Dec.{ltb};
-ghost use Rattle.card.specs.Card.{linesOk};
-ghost use Rattle.gates.specs.Gates.{act, inverseOp, control};
-ghost use Rattle.gates.specs.Records.{isRecord, gateAt};
+ghost use Rattle.digits.specs.Digits.{digit};
+ghost use Rattle.gates.specs.Gates.{act, inverseOp, holds, firesOn, applied};
 ghost use Rattle.cascades.specs.Cascades.{Whole, gatesOf, ran};
-ghost use Rattle.tabulating.specs.Planes.{part, placesOf, fewWord, firesWord, chosenWord, neitherWord, newWord, InBlock, Turned, AllShow};
+ghost use Rattle.tabulating.specs.Planes.{Plane, Word, Shows, Turned};
+use gates::Gate;
 
-// Where the planes start that a gate needs: of each line that of its control; the first of its target; those that become the target's
-// planes for 0 and 1.
-pub struct Places {
-    pub line0: usize,
-    pub line1: usize,
-    pub line2: usize,
-    pub line3: usize,
-    pub line4: usize,
-    pub line5: usize,
-    pub target: usize,
-    pub zero: usize,
-    pub one: usize,
+// Word j of the plane of a line and a control.
+pub fn word(planes: &[u64], line: usize, control: usize, j: usize) -> u64
+    requires { ⌜ (length (now planes) ≡ 288) × (line < 6) × (control < 4) × (j < 12) ⌝ }
+    ensures { λ r. ⌜ r ≡ getD (now (planes .entry)) (12 * (4 * line + control) + j) 0 ⌝ }
+{
+    planes[12 * (4 * line + control) + j]
 }
 
-// The plane of a line's control in the gate at a place.
-fn control_plane(lines: u8, cascade: &[u8], at: usize, line: usize) -> usize
-    requires { ⌜ (isRecord lines (now cascade) at ≡ true) × (line < 6) ⌝ }
-    ensures { λ r. ⌜ r ≡ 16 * line + 4 * control (gateAt (now (cascade .entry)) at) line ⌝ }
+// That of the control which a gate has on the line.
+fn content(planes: &[u64], controls: u16, line: usize, j: usize) -> u64
+    requires { ⌜ (length (now planes) ≡ 288) × (line < 6) × (j < 12) ⌝ }
+    ensures { λ r. ⌜ r ≡ getD (now (planes .entry)) (12 * (4 * line + digit 4 line controls) + j) 0 ⌝ }
 {
-    16 * line + 4 * (cascade[at + 2 + line] as usize)
+    let control = gates::controls::control_on(controls, line);
+    word(planes, line, control as usize, j)
 }
 
-// Which of the target's planes becomes its plane for 0 or 1: that of the digit which the operator takes there. A hexadecimal digit for each
-// operator says where it starts, six for 0 and then six for 1, since a branch on the operator could not be foreseen.
-fn source(operator: u8, digit: usize) -> usize
-    requires { ⌜ (1 ≤ operator) × (operator ≤ 5) × (digit < 2) ⌝ }
-    ensures { λ r. ⌜ r ≡ 4 * act (inverseOp operator) digit ⌝ }
+// Word j of the inputs on which a gate with these controls fires.
+fn firing(planes: &[u64], controls: u16, j: usize) -> u64
+    requires { ⌜ (length (now planes) ≡ 288) × (j < 12) ⌝ }
+    ensures { λ r. ⌜ ((f : ℕ → ℕ) → Shows (now (planes .entry)) f → Word j r (λ p. firesOn controls (f p))) ⌝ }
 {
-    (0x0848_0040_8480usize >> (4 * (operator as usize) + 24 * digit)) % 16
+    let x0 = content(planes, controls, 0, j);
+    let x1 = content(planes, controls, 1, j);
+    let x2 = content(planes, controls, 2, j);
+    let x3 = content(planes, controls, 3, j);
+    let x4 = content(planes, controls, 4, j);
+    let x5 = content(planes, controls, 5, j);
+    x0 & (x1 & (x2 & (x3 & (x4 & x5))))
 }
 
-// The places of the gate at a place.
-fn places_of(lines: u8, cascade: &[u8], at: usize) -> Places
-    requires { ⌜ (linesOk lines ≡ true) × (isRecord lines (now cascade) at ≡ true) ⌝ }
-    ensures { λ r. ⌜ r ≡ placesOf (gateAt (now (cascade .entry)) at) ⌝ }
+// The digit that an operator takes to this one.
+fn source(operator: u8, digit: u16) -> usize
+    requires { ⌜ digit < 3 ⌝ }
+    ensures { λ r. ⌜ (r ≡ act (inverseOp operator) digit) × (r < 3) ⌝ }
 {
-    let operator = cascade[at];
-    let target = 16 * (cascade[at + 1] as usize);
-    Places {
-        line0: control_plane(lines, cascade, at, 0),
-        line1: control_plane(lines, cascade, at, 1),
-        line2: control_plane(lines, cascade, at, 2),
-        line3: control_plane(lines, cascade, at, 3),
-        line4: control_plane(lines, cascade, at, 4),
-        line5: control_plane(lines, cascade, at, 5),
-        target,
-        zero: target + source(operator, 0),
-        one: target + source(operator, 1),
-    }
+    gates::act_on(gates::invert_op(operator), digit) as usize
 }
 
-// Word j of the plane that starts at a place.
-pub fn word(block: &[u64], plane: usize, j: usize) -> u64
-    requires { ⌜ plane + j < length (now block) ⌝ }
-    ensures { λ r. ⌜ r ≡ getD (now (block .entry)) (plane + j) 0 ⌝ }
+// Word j of a line's plane for a digit after a gate: where it fires, that of the plane for the digit's source.
+fn turned(planes: &[u64], line: usize, digit: usize, source: usize, firing: u64, j: usize) -> u64
+    requires { ⌜ (length (now planes) ≡ 288) × (line < 6) × (digit < 3) × (source < 3) × (j < 12) ⌝ }
+    ensures { λ r. ⌜ Turned (now (planes .entry)) line digit source firing j r ⌝ }
 {
-    block[plane + j]
+    let old = word(planes, line, digit, j);
+    let moved = word(planes, line, source, j);
+    ((moved ^ old) & firing) ^ old
 }
 
-// The inputs of word j on which the controls of the first four lines are content.
-fn few_fire_at(block: &[u64], places: Places, j: usize) -> u64
-    requires { ⌜ InBlock places ⌝ }
-    requires { ⌜ (length (now block) ≡ 96) × (j < 4) ⌝ }
-    ensures { λ r. ⌜ r ≡ fewWord places (now (block .entry)) j ⌝ }
+// The target's planes for 0, 1 and 2 (neither 0 nor 1) after the gate. They are made before one is stored, since the operator may exchange them.
+fn turn(planes: &[u64], g: Gate, new: &mut [u64])
+    requires { ⌜ (length (now planes) ≡ 288) × (length (now new) ≡ 36) × (1 ≤ g .operator) × (g .operator ≤ 5) × (g .target < 6) ⌝ }
+    ensures { λ _. ⌜ ((f : ℕ → ℕ) → Shows (now (planes .entry)) f → (d : ℕ) → d < 3 → Plane (now (new .exit)) d (λ p. holds d (digit 3 (g .target) (applied g (f p))))) ⌝ }
 {
-    (word(block, places.line0, j) & word(block, places.line1, j))
-        & (word(block, places.line2, j) & word(block, places.line3, j))
-}
-
-// The inputs of word j on which the gate fires: every control is content.
-fn fires_at(block: &[u64], places: Places, j: usize) -> u64
-    requires { ⌜ InBlock places ⌝ }
-    requires { ⌜ (length (now block) ≡ 96) × (j < 4) ⌝ }
-    ensures { λ r. ⌜ r ≡ firesWord false places (now (block .entry)) j ⌝ }
-{
-    few_fire_at(block, places, j) & word(block, places.line4, j) & word(block, places.line5, j)
-}
-
-// The bits of one word where the gate fires, and of the other elsewhere.
-fn chosen(fires: u64, moved: u64, old: u64) -> u64
-    ensures { λ r. ⌜ r ≡ chosenWord fires moved old ⌝ }
-{
-    ((moved ^ old) & fires) ^ old
-}
-
-// The bits that neither word has: a line that holds neither 0 nor 1 holds 2.
-fn neither(a: u64, b: u64) -> u64
-    ensures { λ r. ⌜ r ≡ neitherWord a b ⌝ }
-{
-    (a | b) ^ 0xffff_ffff_ffff_ffff
-}
-
-// Word j of what the target's plane for 0 becomes.
-fn zero_at(block: &[u64], places: Places, fires: u64, j: usize) -> u64
-    requires { ⌜ InBlock places ⌝ }
-    requires { ⌜ (length (now block) ≡ 96) × (j < 4) ⌝ }
-    ensures { λ r. ⌜ r ≡ chosenWord fires (getD (now (block .entry)) (places .zero + j) 0) (getD (now (block .entry)) (places .target + j) 0) ⌝ }
-{
-    chosen(
-        fires,
-        word(block, places.zero, j),
-        word(block, places.target, j),
-    )
-}
-
-// Word j of what the target's plane for 1 becomes.
-fn one_at(block: &[u64], places: Places, fires: u64, j: usize) -> u64
-    requires { ⌜ InBlock places ⌝ }
-    requires { ⌜ (length (now block) ≡ 96) × (j < 4) ⌝ }
-    ensures { λ r. ⌜ r ≡ chosenWord fires (getD (now (block .entry)) (places .one + j) 0) (getD (now (block .entry)) (places .target + 4 + j) 0) ⌝ }
-{
-    chosen(
-        fires,
-        word(block, places.one, j),
-        word(block, places.target + 4, j),
-    )
-}
-
-// What the target's planes for 0, 1 and 2 become, beside the block, so that every word is read before one is stored.
-fn turn(block: &[u64], places: Places, new: &mut [u64])
-    requires { ⌜ InBlock places ⌝ }
-    requires { ⌜ (length (now block) ≡ 96) × (length (now new) ≡ 12) ⌝ }
-    ensures { λ _. ⌜ ((c j : ℕ) → c < 3 → j < 4 → getD (now (new .exit)) (4 * c + j) 0 ≡ newWord false places (now (block .entry)) c j) ⌝ }
-{
+    let line = g.target as usize;
+    let to_zero = source(g.operator, 0);
+    let to_one = source(g.operator, 1);
     let mut j: usize = 0;
-    while j < 4 {
-        let fires = fires_at(block, places, j);
-        let zero = zero_at(block, places, fires, j);
-        let one = one_at(block, places, fires, j);
+    while j < 12 {
+        let fires = firing(planes, g.controls, j);
+        let zero = turned(planes, line, 0, to_zero, fires, j);
+        let one = turned(planes, line, 1, to_one, fires, j);
         new[j] = zero;
-        new[4 + j] = one;
-        new[8 + j] = neither(zero, one);
+        new[12 + j] = one;
+        new[24 + j] = (zero | one) ^ 0xffff_ffff_ffff_ffff;
         j = j + 1;
     }
 }
 
-// Words stored from a place on.
-pub fn put(block: &mut [u64], at: usize, words: &[u64])
-    requires { ⌜ at + length (now words) ≤ length (now block) ⌝ }
-    ensures { λ _. ⌜ now (block .exit) ≡ sets (now (block .entry)) at (now (words .entry)) ⌝ }
+// Three planes, stored from a place on.
+fn store(planes: &mut [u64], at: usize, new: &[u64])
+    requires { ⌜ (length (now planes) ≡ 288) × (length (now new) ≡ 36) × (at + 36 ≤ 288) ⌝ }
+    ensures { λ _. ⌜ now (planes .exit) ≡ sets (now (planes .entry)) at (now (new .entry)) ⌝ }
 {
-    let mut j: usize = 0;
-    while j < words.len() {
-        block[at + j] = words[j];
-        j = j + 1;
+    let mut k: usize = 0;
+    while k < 36 {
+        planes[at + k] = new[k];
+        k = k + 1;
     }
 }
 
-// A gate on the block of a small board. Here too every word is read before one is stored.
-fn act_on_few(block: &mut [u64], places: Places)
-    requires { ⌜ InBlock places ⌝ }
-    requires { ⌜ length (now block) ≡ 96 ⌝ }
-    ensures { λ _. ⌜ Turned true places (now (block .entry)) (now (block .exit)) ⌝ }
+// A gate: the target's plane for none stays as it is.
+fn act(planes: &mut [u64], g: Gate, new: &mut [u64])
+    requires { ⌜ (length (now planes) ≡ 288) × (length (now new) ≡ 36) × (1 ≤ g .operator) × (g .operator ≤ 5) × (g .target < 6) ⌝ }
+    ensures { λ _. ⌜ ((f : ℕ → ℕ) → Shows (now (planes .entry)) f → Shows (now (planes .exit)) (λ p. applied g (f p))) ⌝ }
 {
-    let fires0 = few_fire_at(block, places, 0);
-    let fires1 = few_fire_at(block, places, 1);
-    let zero0 = zero_at(block, places, fires0, 0);
-    let zero1 = zero_at(block, places, fires1, 1);
-    let one0 = one_at(block, places, fires0, 0);
-    let one1 = one_at(block, places, fires1, 1);
-    let zero = [zero0, zero1];
-    let one = [one0, one1];
-    let two = [neither(zero0, one0), neither(zero1, one1)];
-    put(block, places.target, &zero);
-    put(block, places.target + 4, &one);
-    put(block, places.target + 8, &two);
-}
-
-// A gate on a block.
-fn act_on_block(block: &mut [u64], places: Places, small: bool, new: &mut [u64])
-    requires { ⌜ InBlock places ⌝ }
-    requires { ⌜ (length (now block) ≡ 96) × (length (now new) ≡ 12) ⌝ }
-    ensures { λ _. ⌜ Turned small places (now (block .entry)) (now (block .exit)) ⌝ }
-{
-    if small {
-        act_on_few(block, places);
-    } else {
-        turn(block, places, new);
-        put(block, places.target, new);
-    }
-}
-
-// A gate on all blocks.
-fn act(planes: &mut [u64], blocks: usize, places: Places, small: bool, new: &mut [u64])
-    requires { ⌜ InBlock places ⌝ }
-    requires { ⌜ (length (now planes) ≡ 96 * blocks) × (blocks ≤ 3) × (length (now new) ≡ 12) ⌝ }
-    ensures { λ _. ⌜ ((s : ℕ) → s < blocks → Turned small places (part s (now (planes .entry))) (part s (now (planes .exit)))) ⌝ }
-{
-    let mut number: usize = 0;
-    while number < blocks {
-        act_on_block(
-            &mut planes[96 * number..96 * number + 96],
-            places,
-            small,
-            new,
-        );
-        number = number + 1;
-    }
+    turn(planes, g, new);
+    store(planes, 48 * g.target as usize, new);
 }
 
 // The gates of a cascade that was checked, first to last.
-fn run_with(
-    lines: u8,
-    cascade: &[u8],
-    m: usize,
-    planes: &mut [u64],
-    blocks: usize,
-    small: bool,
-    new: &mut [u64],
-)
-    requires { ⌜ Whole lines (now cascade) m ⌝ }
-    requires { ⌜ (length (now planes) ≡ 96 * blocks) × (blocks ≤ 3) × (length (now new) ≡ 12) ⌝ }
-    requires { ⌜ small ≡ ltb lines 5 ⌝ }
-    requires { ⌜ AllShow false blocks (now planes) (λ p. p) ⌝ }
-    ensures { λ _. ⌜ AllShow small blocks (now (planes .exit)) (ran (gatesOf (now (cascade .entry)))) ⌝ }
+pub fn run(lines: u8, cascade: &[u8], m: usize, planes: &mut [u64], new: &mut [u64])
+    requires { ⌜ Whole lines (now cascade) m × (length (now planes) ≡ 288) × (length (now new) ≡ 36) ⌝ }
+    ensures { λ _. ⌜ ((f : ℕ → ℕ) → Shows (now (planes .entry)) f → Shows (now (planes .exit)) (λ p. ran (gatesOf (now (cascade .entry))) (f p))) ⌝ }
 {
     let mut i: usize = 0;
     while i < m {
-        act(planes, blocks, places_of(lines, cascade, 8 * i), small, new);
+        let w = gates::words::word_at(cascade, 8 * i);
+        act(planes, gates::words::gate_of(w), new);
         i = i + 1;
     }
-}
-
-// The same, with room for a target's planes.
-pub fn run(lines: u8, cascade: &[u8], m: usize, planes: &mut [u64], blocks: usize)
-    requires { ⌜ Whole lines (now cascade) m ⌝ }
-    requires { ⌜ (length (now planes) ≡ 96 * blocks) × (blocks ≤ 3) ⌝ }
-    requires { ⌜ AllShow false blocks (now planes) (λ p. p) ⌝ }
-    ensures { λ _. ⌜ AllShow (ltb lines 5) blocks (now (planes .exit)) (ran (gatesOf (now (cascade .entry)))) ⌝ }
-{
-    let mut new = [0u64; 12];
-    run_with(lines, cascade, m, planes, blocks, lines < 5, &mut new);
 }

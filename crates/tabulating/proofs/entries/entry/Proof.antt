@@ -1,59 +1,23 @@
 -- `tabulating::entries::entry` meets its contract: digit by digit. Assumes nothing.
-use borrow.Author.Needs.{needs}
 use Rattle.tabulating.specs.Planes.{entryOf}
+use borrow.Author.Needs.{needs}
 use Rattle.tabulating.proofs.entries.entry.Statement.{statement}
 use Rattle.tabulating.proofs.entries.entry.Tie as tie
-
-array-read-digit-on : tie.Need-array-read-digit-on
-array-read-digit-on c = search needs
-
-array-read-digit-on-2 : tie.Need-array-read-digit-on-2
-array-read-digit-on-2 c = search needs
 
 digit-on-requires : tie.Need-digit-on-requires
 digit-on-requires c κs = search needs
 
-array-read-digit-on-3 : tie.Need-array-read-digit-on-3
-array-read-digit-on-3 c = search needs
-
-array-read-digit-on-4 : tie.Need-array-read-digit-on-4
-array-read-digit-on-4 c = search needs
-
 digit-on-requires-2 : tie.Need-digit-on-requires-2
 digit-on-requires-2 c κs = search needs
-
-array-read-digit-on-5 : tie.Need-array-read-digit-on-5
-array-read-digit-on-5 c = search needs
-
-array-read-digit-on-6 : tie.Need-array-read-digit-on-6
-array-read-digit-on-6 c = search needs
 
 digit-on-requires-3 : tie.Need-digit-on-requires-3
 digit-on-requires-3 c κs = search needs
 
-array-read-digit-on-7 : tie.Need-array-read-digit-on-7
-array-read-digit-on-7 c = search needs
-
-array-read-digit-on-8 : tie.Need-array-read-digit-on-8
-array-read-digit-on-8 c = search needs
-
 digit-on-requires-4 : tie.Need-digit-on-requires-4
 digit-on-requires-4 c κs = search needs
 
-array-read-digit-on-9 : tie.Need-array-read-digit-on-9
-array-read-digit-on-9 c = search needs
-
-array-read-digit-on-10 : tie.Need-array-read-digit-on-10
-array-read-digit-on-10 c = search needs
-
 digit-on-requires-5 : tie.Need-digit-on-requires-5
 digit-on-requires-5 c κs = search needs
-
-array-read-digit-on-11 : tie.Need-array-read-digit-on-11
-array-read-digit-on-11 c = search needs
-
-array-read-digit-on-12 : tie.Need-array-read-digit-on-12
-array-read-digit-on-12 c = search needs
 
 digit-on-requires-6 : tie.Need-digit-on-requires-6
 digit-on-requires-6 c κs = search needs
@@ -88,9 +52,6 @@ mul-result-5 c = search needs
 add-result-5 : tie.Need-add-result-5
 add-result-5 c = search needs
 
-cast-result : tie.Need-cast-result
-cast-result c = search needs
-
 returns : tie.Need-returns
 unfolding entryOf
 returns c =
@@ -100,23 +61,11 @@ pub entry-spec : {M : Type 1} → statement M
 entry-spec =
     tie.close
     (tie.spec
-    array-read-digit-on
-    array-read-digit-on-2
     digit-on-requires
-    array-read-digit-on-3
-    array-read-digit-on-4
     digit-on-requires-2
-    array-read-digit-on-5
-    array-read-digit-on-6
     digit-on-requires-3
-    array-read-digit-on-7
-    array-read-digit-on-8
     digit-on-requires-4
-    array-read-digit-on-9
-    array-read-digit-on-10
     digit-on-requires-5
-    array-read-digit-on-11
-    array-read-digit-on-12
     digit-on-requires-6
     mul-result
     add-result
@@ -128,5 +77,4 @@ entry-spec =
     add-result-4
     mul-result-5
     add-result-5
-    cast-result
     returns)

@@ -1,49 +1,47 @@
--- `tabulating::planes::turn` meets its contract: each turn of the loop makes one word of each of the three planes. Assumes nothing.
+-- `tabulating::planes::turn` meets its contract: in each turn of the loop each of the three planes gets a word. Assumes nothing.
 use mathlib.Core.Path.{_≡_, sym, _∙_}
-use mathlib.Core.Bool.{false}
-use Prim.Native.Nat.{_+_, _-_}
+use mathlib.Core.List.{List}
+use Prim.Native.Nat.{ℕ, _-_}
 use native.Mathlib.Omega.{arith}
-use lib.ListN.{length, set, length-set}
+use lib.ListN.{length, length-set}
+use Rattle.gates.specs.declared.Gate.{Gate}
+use Rattle.tabulating.specs.Planes.{Shows}
+use Rattle.tabulating.proofs.Stored.{Begun, three-stored}
+use Rattle.tabulating.proofs.Turns.{after, turned-word, neither-word}
 use borrow.Author.Needs.{needs}
-use Rattle.tabulating.specs.Planes.{zeroWord, oneWord}
-use Rattle.tabulating.proofs.Turns.{Turning, turning-start, turning-next}
 use Rattle.tabulating.proofs.planes.turn.Statement.{statement}
 use Rattle.tabulating.proofs.planes.turn.Tie as tie
 
+record Going (planes : List ℕ) (g : Gate) (new : List ℕ) (j : ℕ) : Type 0 where
+  size : length new ≡ 36
+  begun : (f : ℕ → ℕ) → Shows planes f → Begun (after g f) new j
+
 abbrev Inv-loop : tie.InvT-loop
-Inv-loop block places new₀ j₀ new j = Turning places block new j
+Inv-loop planes g new₀ line to-zero to-one j₀ new j = Going planes g new j
 
 abbrev μ-loop : tie.MeasureT-loop
-μ-loop block places new₀ j₀ new j = 4 - j
+μ-loop planes g new₀ line to-zero to-one j₀ new j = 12 - j
 
--- what a turn has made
-module _ (c : tie.After-one-at Inv-loop μ-loop) where
-  zero-made : c .before .zero-at .result ≡ zeroWord false (c .before .before .before .before .before .before .before .args .places) (c .before .before .before .before .before .before .before .args .block .now) (c .before .before .before .before .loop .j)
-  unfolding zeroWord
-  zero-made = c .before .zero-at .ensures ∙ rw (c .before .before .fires-at .ensures)
+cast-line : tie.Need-cast-line Inv-loop μ-loop
+cast-line c = search needs
 
-  one-made : c .one-at .result ≡ oneWord false (c .before .before .before .before .before .before .before .args .places) (c .before .before .before .before .before .before .before .args .block .now) (c .before .before .before .before .loop .j)
-  unfolding oneWord
-  one-made = c .one-at .ensures ∙ rw (c .before .before .fires-at .ensures)
+source-requires : tie.Need-source-requires Inv-loop μ-loop
+source-requires c κs = search needs
 
-  -- stores keep the length
-  long-one : length (set (c .before .before .before .before .loop .new) (c .before .before .before .before .loop .j) (c .before .zero-at .result)) ≡ 12
-  long-one = simp length-set (c .before .before .before .before .loop .inv .long)
-
-  long-two : length (set (set (c .before .before .before .before .loop .new) (c .before .before .before .before .loop .j) (c .before .zero-at .result)) (4 + c .before .before .before .before .loop .j) (c .one-at .result)) ≡ 12
-  long-two = simp length-set (c .before .before .before .before .loop .inv .long)
+source-requires-2 : tie.Need-source-requires-2 Inv-loop μ-loop
+source-requires-2 c κs = search needs
 
 loop-holds : tie.Need-loop-holds Inv-loop μ-loop
-loop-holds c = turning-start _ _ _ (c .before .before .pre .1 .1)
+loop-holds c = record { size = c .before .before .before .before .before .pre .1; begun = λ f shows d p ld lp lt. absurd (omega arith) }
 
-fires-at-requires : tie.Need-fires-at-requires Inv-loop μ-loop
-fires-at-requires c κs = search needs
+firing-requires : tie.Need-firing-requires Inv-loop μ-loop
+firing-requires c κs = search needs
 
-zero-at-requires : tie.Need-zero-at-requires Inv-loop μ-loop
-zero-at-requires c κs = search needs
+turned-requires : tie.Need-turned-requires Inv-loop μ-loop
+turned-requires c κs = search needs
 
-one-at-requires : tie.Need-one-at-requires Inv-loop μ-loop
-one-at-requires c κs = search needs
+turned-requires-2 : tie.Need-turned-requires-2 Inv-loop μ-loop
+turned-requires-2 c κs = search needs
 
 mul-new : tie.Need-mul-new Inv-loop μ-loop
 mul-new c = search needs
@@ -58,10 +56,7 @@ mul-new-2 : tie.Need-mul-new-2 Inv-loop μ-loop
 mul-new-2 c = search needs
 
 slice-write-new-2 : tie.Need-slice-write-new-2 Inv-loop μ-loop
-slice-write-new-2 c = omega (arith, long-one c)
-
-neither-requires : tie.Need-neither-requires Inv-loop μ-loop
-neither-requires c κs = search needs
+slice-write-new-2 c = simp length-set (omega (arith, c .before .before .before .before .loop .inv .size, c .before .before .before .loop-test .taken))
 
 add-new-2 : tie.Need-add-new-2 Inv-loop μ-loop
 add-new-2 c = search needs
@@ -70,7 +65,7 @@ mul-new-3 : tie.Need-mul-new-3 Inv-loop μ-loop
 mul-new-3 c = search needs
 
 slice-write-new-3 : tie.Need-slice-write-new-3 Inv-loop μ-loop
-slice-write-new-3 c = omega (arith, long-two (c .before))
+slice-write-new-3 c = simp length-set (omega (arith, c .before .before .before .before .loop .inv .size, c .before .before .before .loop-test .taken))
 
 add-j : tie.Need-add-j Inv-loop μ-loop
 add-j c = search needs
@@ -80,17 +75,26 @@ loop-less c = search needs
 
 loop-again : tie.Need-loop-again Inv-loop μ-loop
 loop-again c =
-    let d = c .before .before .before .before in
-    turning-next _ _ _ _ (d .before .loop .inv) (d .loop-test .taken) _ _ _ (zero-made (c .before)) (one-made (c .before)) (c .neither .ensures)
+    let l = c .before .before .before .before in
+    let start = l .before .before .before .before .before .before in
+    let g = start .args .g in
+    let b = start .args .planes .now in
+    record {
+      size = simp length-set (l .loop .inv .size);
+      begun = λ f shows.
+          let fires = c .before .before .firing .ensures f shows in
+          let word = turned-word g b f (start .pre .2) (start .pre .3) (start .pre .4) shows in
+          let zero = word 0 _ _ _ _ (omega arith) (l .before .before .source .ensures .0) fires (c .before .turned .ensures) in
+          let one = word 1 _ _ _ _ (omega arith) (l .before .source2 .ensures .0) fires (c .turned2 .ensures) in
+          three-stored (after g f) (l .loop .new) _ _ _ _ (l .loop .inv .size) (c .before .before .before .loop-test .taken) zero one
+          (neither-word g b f (start .pre .2) (start .pre .3) (start .pre .4) shows _ _ _ zero one) (l .loop .inv .begun f shows);
+    }
 
 same-length : tie.Need-same-length Inv-loop μ-loop
-same-length c = c .before .loop .inv .long ∙ sym (c .before .before .before .before .pre .1 .1)
+same-length c = c .before .loop .inv .size ∙ sym (c .before .before .before .before .before .before .before .pre .1)
 
 returns : tie.Need-returns Inv-loop μ-loop
-returns c =
-    let i = c .before .loop .inv in
-    let e : c .before .loop .j ≡ 4 = omega (arith, i .within) in
-    λ k j lk lj. i .made k j lk (rw e lj)
+returns c = λ f shows d ld p lp. c .before .loop .inv .begun f shows d p ld lp (omega (arith, c .loop-test .left))
 
 pub turn-spec : {M : Type 1} → statement M
 turn-spec =
@@ -98,16 +102,18 @@ turn-spec =
     (tie.spec
     Inv-loop
     μ-loop
+    cast-line
+    source-requires
+    source-requires-2
     loop-holds
-    fires-at-requires
-    zero-at-requires
-    one-at-requires
+    firing-requires
+    turned-requires
+    turned-requires-2
     mul-new
     slice-write-new
     add-new
     mul-new-2
     slice-write-new-2
-    neither-requires
     add-new-2
     mul-new-3
     slice-write-new-3

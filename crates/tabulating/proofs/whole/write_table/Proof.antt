@@ -1,65 +1,59 @@
--- `tabulating::whole::write_table` meets its contract: each way does. Assumes nothing.
+-- `tabulating::whole::write_table` meets its contract: planes that show what the gates make of each input have the table. Assumes nothing.
+use mathlib.Core.Path.{refl, _∙_}
+use native.Mathlib.Omega.{arith}
+use lib.ListN.{getD-replicate}
+use Rattle.card.proofs.Cards.{lines-are}
+use Rattle.digits.proofs.Sizes.{patterns-most}
+use Rattle.cascades.proofs.Cascades.{gates-good}
+use Rattle.tabulating.proofs.Shown.{shown-table}
 use borrow.Author.Needs.{needs}
 use Rattle.tabulating.proofs.whole.write_table.Statement.{statement}
 use Rattle.tabulating.proofs.whole.write_table.Tie as tie
 
-quicker-requires : tie.Need-quicker-requires
-quicker-requires c κs = search needs
+slice-aggregate-lay : tie.Need-slice-aggregate-lay
+slice-aggregate-lay c = search needs
+
+lay-requires : tie.Need-lay-requires
+lay-requires c κs = (refl, λ i lt. getD-replicate 288 i 0 0 lt)
+
+slice-aggregate-run : tie.Need-slice-aggregate-run
+slice-aggregate-run c = search needs
+
+slice-aggregate-run-2 : tie.Need-slice-aggregate-run-2
+slice-aggregate-run-2 c = search needs
+
+run-requires : tie.Need-run-requires
+run-requires c κs = search needs
+
+slice-aggregate-write : tie.Need-slice-aggregate-write
+slice-aggregate-write c = search needs
 
 write-requires : tie.Need-write-requires
-write-requires c κs = let start = c .before .before .before .before .before in (start .pre .0, (c .before .before .quicker .ensures (c .before .if1 .taken), start .pre .1))
-
-write-narrow-requires : tie.Need-write-narrow-requires
-write-narrow-requires c κs = search needs
-
-quicker-requires-2 : tie.Need-quicker-requires-2
-quicker-requires-2 c κs = search needs
-
-write-requires-2 : tie.Need-write-requires-2
-write-requires-2 c κs = search needs
-
-write-wide-requires : tie.Need-write-wide-requires
-write-wide-requires c κs = search needs
+write-requires c κs =
+    let start = c .before .before .before .before .before .before .before .before .before .before .before .before in
+    (search needs, omega (arith, start .pre .1, patterns-most _ (lines-are _ (start .pre .0 .lines) .1)))
 
 same-length : tie.Need-same-length
 same-length c = search needs
 
 returns : tie.Need-returns
-returns c = search needs
-
-same-length-2 : tie.Need-same-length-2
-same-length-2 c = search needs
-
-returns-2 : tie.Need-returns-2
-returns-2 c = search needs
-
-same-length-3 : tie.Need-same-length-3
-same-length-3 c = search needs
-
-returns-3 : tie.Need-returns-3
-returns-3 c = search needs
-
-same-length-4 : tie.Need-same-length-4
-same-length-4 c = search needs
-
-returns-4 : tie.Need-returns-4
-returns-4 c = search needs
+returns c =
+    let r = c .before .before .before .before .before .before .before in
+    let start = r .before .before .before .before .before .before .before .before in
+    let whole = start .pre .0 in
+    c .before .before .write .ensures
+    ∙ rw (start .pre .1) (shown-table _ _ _ (lines-are _ (whole .lines) .1) (gates-good _ _ _ whole) (r .run .ensures _ (r .before .before .before .before .lay .ensures)))
 
 pub write-table-spec : {M : Type 1} → statement M
 write-table-spec =
     tie.close
     (tie.spec
-    quicker-requires
+    slice-aggregate-lay
+    lay-requires
+    slice-aggregate-run
+    slice-aggregate-run-2
+    run-requires
+    slice-aggregate-write
     write-requires
-    write-narrow-requires
-    quicker-requires-2
-    write-requires-2
-    write-wide-requires
     same-length
-    returns
-    same-length-2
-    returns-2
-    same-length-3
-    returns-3
-    same-length-4
-    returns-4)
+    returns)

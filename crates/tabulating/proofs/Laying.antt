@@ -1,0 +1,80 @@
+-- The planes of inputs that no gate has touched: `laid-start`, `laid-next` and `laid-shows` are the start, one turn and the end of the loop over inputs and
+-- lines that makes them. Assumes nothing.
+use mathlib.Core.Path.{_≡_, refl, sym, _∙_}
+use mathlib.Core.Bool.{true, false, or-true, or-false}
+use mathlib.Core.List.{List}
+use Prim.Native.Nat.{ℕ, _+_, _*_, _/_, _%_, _^_, _≤_, _<_}
+use native.Mathlib.Decide.{ℕ-discrete}
+use native.Mathlib.Omega.{arith}
+use lib.Bits.{bitOr}
+use lib.ListN.{length, getD, length-set}
+use borrow.Author.Tests.{eq-eqb, ne-eqb}
+use Rattle.digits.specs.Digits.{digit}
+use Rattle.gates.specs.Gates.{holds}
+use Rattle.tabulating.specs.Planes.{on, member, Shows, joined, Laid}
+use Rattle.tabulating.proofs.Bits.{on-or, on-zero, on-here, on-there}
+use Rattle.tabulating.proofs.Stored.{set-here, set-else}
+
+pub laid-start : (b : List ℕ) → ((i : ℕ) → i < 288 → getD b i 0 ≡ 0) → Laid b 0
+laid-start b zeros =
+    record {
+      known = λ k c p lk lc lp lt. absurd (omega arith);
+      clear = λ k c p lk lc lp le. rw (zeros (12 * (4 * k + c) + p / 64) (omega arith)) (on-zero _);
+    }
+
+pub laid-shows : (b : List ℕ) (t : ℕ) → 6 * 729 ≤ t → Laid b t → Shows b (λ p. p)
+laid-shows b t all laid = record { plane = λ k c lk lc p lp. laid .known k c p lk lc lp (omega arith) }
+
+-- ---- an input joins a plane
+
+module _ (b : List ℕ) (a p : ℕ) where
+  word : ℕ
+  word = bitOr (getD b (12 * a + p / 64) 0) (2 ^ (p % 64))
+
+  joined-in : 12 * a + p / 64 < length b → member (joined b a p) a p ≡ true
+  unfolding word
+  joined-in lt = set-here b (12 * a + p / 64) word a p lt refl ∙ rw (on-or, on-here, or-true)
+
+  joined-else : (a′ p′ : ℕ) → 12 * a + p / 64 < length b → p < 729 → p′ < 729 → (a′ ≡ a → p′ ≡ p → ⊥) → member (joined b a p) a′ p′ ≡ member b a′ p′
+  unfolding word
+  joined-else a′ p′ lt lp lp′ ne = go (ℕ-discrete (12 * a′ + p′ / 64) (12 * a + p / 64))
+    where
+      go : Dec (12 * a′ + p′ / 64 ≡ 12 * a + p / 64) → member (joined b a p) a′ p′ ≡ member b a′ p′
+      go (yes e) =
+          let other : p′ % 64 ≡ p % 64 → ⊥ = λ q. ne (omega arith) (omega arith) in
+          set-here b (12 * a + p / 64) word a′ p′ lt e ∙ rw (on-or, on-there (p′ % 64) (p % 64) other, e) (or-false _)
+      go (no d) = set-else b (12 * a + p / 64) word a′ p′ d
+
+-- ---- it holds x on line k
+
+module _ (b : List ℕ) (k x p : ℕ) (long : length b ≡ 288) (lk : k < 6) (lx : x < 3) (lp : p < 729) (holding : x ≡ digit 3 k p) (old : Laid b (6 * p + k)) where
+  abbrev new : List ℕ
+  new = joined (joined b (4 * k + x) p) (4 * k + 3) p
+
+  kept : (a q : ℕ) → q < 729 → (a ≡ 4 * k + x → q ≡ p → ⊥) → (a ≡ 4 * k + 3 → q ≡ p → ⊥) → member new a q ≡ member b a q
+  kept a q lq one two =
+      joined-else (joined b (4 * k + x) p) (4 * k + 3) p a q (simp length-set (omega arith)) lp lq two ∙ joined-else b (4 * k + x) p a q (omega arith) lp lq one
+
+  here : (c : ℕ) → c < 4 → Dec (c ≡ 3) → Dec (c ≡ x) → member new (4 * k + c) p ≡ holds c (digit 3 k p)
+  unfolding holds
+  here c lc (yes q) d = rw q (joined-in (joined b (4 * k + x) p) (4 * k + 3) p (simp length-set (omega arith)))
+  here c lc (no n) (yes q) =
+      rw (q, ← holding, eq-eqb x x refl, or-true)
+      (joined-else (joined b (4 * k + x) p) (4 * k + 3) p (4 * k + x) p (simp length-set (omega arith)) lp lp (λ e _. omega arith)
+      ∙ joined-in b (4 * k + x) p (omega arith))
+  here c lc (no n) (no m) =
+      kept (4 * k + c) p lp (λ e _. m (omega arith)) (λ e _. n (omega arith)) ∙ old .clear k c p lk lc lp (omega arith) ∙ sym (rw (← holding, ne-eqb c 3 n, ne-eqb c x m))
+
+  pub laid-next : Laid new (6 * p + (k + 1))
+  laid-next =
+      record {
+        known = λ j c q lj lc lq lt. known j c q lj lc lq lt (ℕ-discrete (6 * q + j) (6 * p + k));
+        clear = λ j c q lj lc lq le. kept (4 * j + c) q lq (λ e s. omega arith) (λ e s. omega arith) ∙ old .clear j c q lj lc lq (omega arith);
+      }
+    where
+      known : (j c q : ℕ) → j < 6 → c < 4 → q < 729 → 6 * q + j < 6 * p + (k + 1) → Dec (6 * q + j ≡ 6 * p + k) → member new (4 * j + c) q ≡ holds c (digit 3 j q)
+      known j c q lj lc lq lt (yes e) =
+          let line : j ≡ k = omega arith in
+          let input : q ≡ p = omega arith in
+          rw (line, input) (here c lc (ℕ-discrete c 3) (ℕ-discrete c x))
+      known j c q lj lc lq lt (no ne) = kept (4 * j + c) q lq (λ e s. ne (omega arith)) (λ e s. ne (omega arith)) ∙ old .known j c q lj lc lq (omega arith)
