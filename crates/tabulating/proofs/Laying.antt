@@ -22,8 +22,8 @@ laid-start b zeros =
       clear = λ k c p lk lc lp le. rw (zeros (12 * (4 * k + c) + p / 64) (omega arith)) (on-zero _);
     }
 
-pub laid-shows : (b : List ℕ) (t : ℕ) → 6 * 729 ≤ t → Laid b t → Shows b (λ p. p)
-laid-shows b t all laid = record { plane = λ k c lk lc p lp. laid .known k c p lk lc lp (omega arith) }
+pub laid-shows : (n : ℕ) (b : List ℕ) (t : ℕ) → n ≤ 729 → 6 * n ≤ t → Laid b t → Shows n b (λ p. p)
+laid-shows n b t few all laid = record { few = few; plane = λ k c lk lc p lp. laid .known k c p lk lc (omega arith) (omega arith) }
 
 -- ---- an input joins a plane
 

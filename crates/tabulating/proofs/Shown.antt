@@ -35,7 +35,7 @@ six-digits x lt =
     pack-digits 3 6 x (omega arith) lt in
     omega arith
 
-module _ (b : List ℕ) (f : ℕ → ℕ) (shows : Shows b f) (p : ℕ) (lp : p < 729) where
+module _ (n : ℕ) (b : List ℕ) (f : ℕ → ℕ) (shows : Shows n b f) (p : ℕ) (lp : p < n) where
   line-shown : (k : ℕ) → k < 6 → digitOn b k p ≡ digit 3 k (f p)
   line-shown k lk =
       rw (bit-value, bit-value, shows .plane k 1 lk (omega arith) p lp, shows .plane k 2 lk (omega arith) p lp)
@@ -47,9 +47,9 @@ module _ (b : List ℕ) (f : ℕ → ℕ) (shows : Shows b f) (p : ℕ) (lp : p 
       rw (line-shown 0 (omega arith), line-shown 1 (omega arith), line-shown 2 (omega arith), line-shown 3 (omega arith), line-shown 4 (omega arith), line-shown 5 (omega arith))
       (six-digits (f p) small)
 
-pub shown-table : (n : ℕ) (b : List ℕ) (gs : List Gate) → n ≤ 6 → Each (IsGate n) gs → Shows b (ran gs) → span (entryOf b) 0 (3 ^ n) ≡ tableOf n gs
+pub shown-table : (n : ℕ) (b : List ℕ) (gs : List Gate) → n ≤ 6 → Each (IsGate n) gs → Shows (3 ^ n) b (ran gs) → span (entryOf b) 0 (3 ^ n) ≡ tableOf n gs
 unfolding tableOf
 shown-table n b gs six each shows =
     span-ext (entryOf b) (ran gs) 0 (3 ^ n)
     (λ p low lt.
-    entry-shown b (ran gs) shows p (omega (arith, patterns-most n six)) (lt-of-lt-of-le (run-lt n gs p each (omega arith)) (patterns-most n six)))
+    entry-shown (3 ^ n) b (ran gs) shows p (omega arith) (lt-of-lt-of-le (run-lt n gs p each (omega arith)) (patterns-most n six)))

@@ -3,7 +3,7 @@
 use mathlib.Core.Path.{_≡_, ap, _∙_}
 use mathlib.Core.Bool.{Bool}
 use mathlib.Core.List.{List}
-use Prim.Native.Nat.{ℕ, zero, suc, _+_, _*_, _/_, _%_, _<_}
+use Prim.Native.Nat.{ℕ, zero, suc, _+_, _*_, _/_, _%_, _≤_, _<_}
 use native.Mathlib.Decide.{ℕ-discrete}
 use native.Mathlib.Numerals.{add-one}
 use native.Mathlib.Omega.{arith}
@@ -19,13 +19,13 @@ module _ (b : List ℕ) (at x a p : ℕ) where
   pub set-else : (12 * a + p / 64 ≡ at → ⊥) → member (set b at x) a p ≡ member b a p
   set-else ne = ap (on (p % 64)) (getD-set-other b at (12 * a + p / 64) x 0 ne)
 
--- planes 0, 1 and 2 have the inputs of which t says so, in their first j words
-abbrev pub Begun : (ℕ → ℕ → Bool) → List ℕ → ℕ → Type 0
-Begun t b j = (d p : ℕ) → d < 3 → p < 729 → p / 64 < j → member b d p ≡ t d p
+-- of the first n inputs, planes 0, 1 and 2 have those of which t says so, in their first j words
+abbrev pub Begun : ℕ → (ℕ → ℕ → Bool) → List ℕ → ℕ → Type 0
+Begun n t b j = (d p : ℕ) → d < 3 → p < n → p / 64 < j → member b d p ≡ t d p
 
-pub three-stored : (t : ℕ → ℕ → Bool) (b : List ℕ) (j x y z : ℕ) → length b ≡ 36 → j < 12 → Word j x (t 0) → Word j y (t 1) → Word j z (t 2)
-    → Begun t b j → Begun t (set (set (set b j x) (12 + j) y) (24 + j) z) (j + 1)
-three-stored t b j x y z long lj wx wy wz old d p ld lp lt = go d ld (ℕ-discrete (p / 64) j)
+pub three-stored : (n : ℕ) (t : ℕ → ℕ → Bool) (b : List ℕ) (j x y z : ℕ) → n ≤ 729 → length b ≡ 36 → j < 12 → Word n j x (t 0) → Word n j y (t 1) → Word n j z (t 2)
+    → Begun n t b j → Begun n t (set (set (set b j x) (12 + j) y) (24 + j) z) (j + 1)
+three-stored n t b j x y z few long lj wx wy wz old d p ld lp lt = go d ld (ℕ-discrete (p / 64) j)
   where
     b₁ : List ℕ
     b₁ = set b j x

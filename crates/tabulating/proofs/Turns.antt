@@ -55,11 +55,11 @@ moved g p d low high ld = go (fires g p) refl
     go false e = rw (applied-no g p e)
 
 -- a gate's controls, line by line
-pub all-content : (b : List ℕ) (f : ℕ → ℕ) (controls p : ℕ) → Shows b f → p < 729
+pub all-content : (n : ℕ) (b : List ℕ) (f : ℕ → ℕ) (controls p : ℕ) → Shows n b f → p < n
     → (member b (4 * 0 + digit 4 0 controls) p && (member b (4 * 1 + digit 4 1 controls) p && (member b (4 * 2 + digit 4 2 controls) p && (member b (4 * 3 + digit 4 3 controls) p && (member b (4 * 4 + digit 4 4 controls) p && member b (4 * 5 + digit 4 5 controls) p)))))
     ≡ firesOn controls (f p)
 unfolding firesOn every
-all-content b f controls p shows lp =
+all-content n b f controls p shows lp =
     let line : (k : ℕ) → k < 6 → member b (4 * k + digit 4 k controls) p ≡ holds (digit 4 k controls) (digit 3 k (f p)) =
     λ k lk. shows .plane k (digit 4 k controls) lk (digit-lt 4 k controls (omega arith)) p lp in
     rw (line 0 (omega arith), line 1 (omega arith), line 2 (omega arith), line 3 (omega arith), line 4 (omega arith), line 5 (omega arith), and-true)
@@ -73,38 +73,41 @@ holds-two = three (λ y. not (holds 0 y || holds 1 y) ≡ holds 2 y) refl refl r
 abbrev pub after : Gate → (ℕ → ℕ) → ℕ → ℕ → Bool
 after g f d p = holds d (digit 3 (g .target) (applied g (f p)))
 
-module _ (g : Gate) (b : List ℕ) (f : ℕ → ℕ) (low : 1 ≤ g .operator) (high : g .operator ≤ 5) (line : g .target < 6) (shows : Shows b f) where
+module _ (g : Gate) (n : ℕ) (b : List ℕ) (f : ℕ → ℕ) (low : 1 ≤ g .operator) (high : g .operator ≤ 5) (line : g .target < 6) (shows : Shows n b f) where
   -- the target's plane for d after the gate, word by word
-  pub turned-word : (d s firing j w : ℕ) → d < 3 → s ≡ act (inverseOp (g .operator)) d → Word j firing (λ p. fires g (f p)) → Turned b (g .target) d s firing j w
-      → Word j w (after g f d)
+  pub turned-word : (d s firing j w : ℕ) → d < 3 → s ≡ act (inverseOp (g .operator)) d → Word n j firing (λ p. fires g (f p)) → Turned b (g .target) d s firing j w
+      → Word n j w (after g f d)
   turned-word d s firing j w ld es fired turned p lp e =
       turned (p % 64)
       ∙ rw (fired p lp e, ← e, es, shows .plane (g .target) (act (inverseOp (g .operator)) d) line (omega (arith, act-lt (inverseOp (g .operator)) d)) p lp, shows .plane (g .target) d line (omega arith) p lp)
       (sym (moved g (f p) d low high ld))
 
   -- and for 2, where the line holds neither 0 nor 1
-  pub neither-word : (j x y : ℕ) → Word j x (after g f 0) → Word j y (after g f 1) → Word j (bitXor (bitOr x y) 18446744073709551615) (after g f 2)
+  pub neither-word : (j x y : ℕ) → Word n j x (after g f 0) → Word n j y (after g f 1) → Word n j (bitXor (bitOr x y) 18446744073709551615) (after g f 2)
   neither-word j x y zeros ones p lp e =
       on-neither (p % 64) x y (omega arith) ∙ rw (zeros p lp e, ones p lp e) (holds-two (digit 3 (g .target) (applied g (f p))) (digit-lt 3 (g .target) (applied g (f p)) (omega arith)))
 
   -- its three planes, stored
-  pub stepped : (new : List ℕ) → length b ≡ 288 → length new ≡ 36 → ((d : ℕ) → d < 3 → Plane new d (after g f d))
-      → Shows (sets b (48 * g .target) new) (λ p. applied g (f p))
-  stepped new long size planes = record { plane = λ k c lk lc p lp. go k c p lk lc lp (ℕ-discrete k (g .target)) (lt-or-le c 3) }
+  pub stepped : (new : List ℕ) → length b ≡ 288 → length new ≡ 36 → ((d : ℕ) → d < 3 → Plane n new d (after g f d))
+      → Shows n (sets b (48 * g .target) new) (λ p. applied g (f p))
+  stepped new long size planes = record { few = shows .few; plane = λ k c lk lc p lp. go k c p lk lc lp (ℕ-discrete k (g .target)) (lt-or-le c 3) }
     where
-      outside : (k c p : ℕ) → k < 6 → c < 4 → p < 729 → (12 * (4 * k + c) + p / 64 < 48 * g .target) ⊎ (48 * g .target + length new ≤ 12 * (4 * k + c) + p / 64)
+      outside : (k c p : ℕ) → k < 6 → c < 4 → p < n → (12 * (4 * k + c) + p / 64 < 48 * g .target) ⊎ (48 * g .target + length new ≤ 12 * (4 * k + c) + p / 64)
           → member (sets b (48 * g .target) new) (4 * k + c) p ≡ holds c (digit 3 k (f p))
       outside k c p lk lc lp far = ap (on (p % 64)) (⊎-elim (getD-sets-below new b (48 * g .target) _ 0) (getD-sets-above new b (48 * g .target) _ 0) far) ∙ shows .plane k c lk lc p lp
 
-      go : (k c p : ℕ) → k < 6 → c < 4 → p < 729 → Dec (k ≡ g .target) → (c < 3) ⊎ (3 ≤ c) → member (sets b (48 * g .target) new) (4 * k + c) p ≡ holds c (digit 3 k (applied g (f p)))
+      go : (k c p : ℕ) → k < 6 → c < 4 → p < n → Dec (k ≡ g .target) → (c < 3) ⊎ (3 ≤ c) → member (sets b (48 * g .target) new) (4 * k + c) p ≡ holds c (digit 3 k (applied g (f p)))
       go k c p lk lc lp (yes q) (_⊎_.inl lt) =
+          let few = shows .few in
           let at : 12 * (4 * k + c) + p / 64 ≡ 48 * g .target + (12 * c + p / 64) = omega arith in
           rw (at, q) (ap (on (p % 64)) (getD-sets new b (48 * g .target) (12 * c + p / 64) 0 (omega arith) (omega arith)) ∙ planes c lt p lp)
       go k c p lk lc lp (yes q) (_⊎_.inr le) =
+          let few = shows .few in
           let three : c ≡ 3 = omega arith in
           outside k c p lk lc lp (_⊎_.inr (omega arith)) ∙ rw (three, holds-none, holds-none)
       go k c p lk lc lp (no ne) _ =
+          let few = shows .few in
           outside k c p lk lc lp (⊎-elim (λ (lt : k < g .target). _⊎_.inl (omega arith)) (λ (le : g .target ≤ k). _⊎_.inr (omega arith)) (lt-or-le k (g .target))) ∙ rw (other-line g (f p) k ne)
 
-pub shows-ext : (b : List ℕ) (f h : ℕ → ℕ) → ((p : ℕ) → f p ≡ h p) → Shows b f → Shows b h
-shows-ext b f h e shows = record { plane = λ k c lk lc p lp. shows .plane k c lk lc p lp ∙ ap (λ (x : ℕ). holds c (digit 3 k x)) (e p) }
+pub shows-ext : (n : ℕ) (b : List ℕ) (f h : ℕ → ℕ) → ((p : ℕ) → f p ≡ h p) → Shows n b f → Shows n b h
+shows-ext n b f h e shows = record { few = shows .few; plane = λ k c lk lc p lp. shows .plane k c lk lc p lp ∙ ap (λ (x : ℕ). holds c (digit 3 k x)) (e p) }

@@ -17,17 +17,18 @@ on i w = eqb (digit 2 i w) 1
 abbrev pub member : List ℕ → ℕ → ℕ → Bool
 member b a p = on (p % 64) (getD b (12 * a + p / 64) 0)
 
--- plane a has the inputs of which t says so
-abbrev pub Plane : List ℕ → ℕ → (ℕ → Bool) → Type 0
-Plane b a t = (p : ℕ) → p < 729 → member b a p ≡ t p
+-- of the first n inputs, plane a has those of which t says so
+abbrev pub Plane : ℕ → List ℕ → ℕ → (ℕ → Bool) → Type 0
+Plane n b a t = (p : ℕ) → p < n → member b a p ≡ t p
 
 -- word w is word j of such a plane
-abbrev pub Word : ℕ → ℕ → (ℕ → Bool) → Type 0
-Word j w t = (p : ℕ) → p < 729 → p / 64 ≡ j → on (p % 64) w ≡ t p
+abbrev pub Word : ℕ → ℕ → ℕ → (ℕ → Bool) → Type 0
+Word n j w t = (p : ℕ) → p < n → p / 64 ≡ j → on (p % 64) w ≡ t p
 
--- for each line k and control c, plane 4 k + c has the inputs p with which the control is content if f p is the pattern
-pub record Shows (b : List ℕ) (f : ℕ → ℕ) : Type 0 where
-  pub plane : (k c : ℕ) → k < 6 → c < 4 → Plane b (4 * k + c) (λ p. holds c (digit 3 k (f p)))
+-- for each line k and control c, plane 4 k + c has of the first n inputs those p with which the control is content if f p is the pattern
+pub record Shows (n : ℕ) (b : List ℕ) (f : ℕ → ℕ) : Type 0 where
+  pub few : n ≤ 729
+  pub plane : (k c : ℕ) → k < 6 → c < 4 → Plane n b (4 * k + c) (λ p. holds c (digit 3 k (f p)))
 
 -- w is word j of line k's plane for d where those that fire get their bit from the plane for s, and the others keep it
 abbrev pub Turned : List ℕ → ℕ → ℕ → ℕ → ℕ → ℕ → ℕ → Type 0

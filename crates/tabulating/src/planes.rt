@@ -31,7 +31,7 @@ fn content(planes: &[u64], controls: u16, line: usize, j: usize) -> u64
 // Word j of the inputs on which a gate with these controls fires.
 fn firing(planes: &[u64], controls: u16, j: usize) -> u64
     requires { ⌜ (length (now planes) ≡ 288) × (j < 12) ⌝ }
-    ensures { λ r. ⌜ ((f : ℕ → ℕ) → Shows (now (planes .entry)) f → Word j r (λ p. firesOn controls (f p))) ⌝ }
+    ensures { λ r. ⌜ ((n : ℕ) (f : ℕ → ℕ) → Shows n (now (planes .entry)) f → Word n j r (λ p. firesOn controls (f p))) ⌝ }
 {
     let x0 = content(planes, controls, 0, j);
     let x1 = content(planes, controls, 1, j);
@@ -63,7 +63,7 @@ fn turned(planes: &[u64], line: usize, digit: usize, source: usize, firing: u64,
 // The target's planes for 0, 1 and 2 (neither 0 nor 1) after the gate. They are made before one is stored, since the operator may exchange them.
 fn turn(planes: &[u64], g: Gate, new: &mut [u64])
     requires { ⌜ (length (now planes) ≡ 288) × (length (now new) ≡ 36) × (1 ≤ g .operator) × (g .operator ≤ 5) × (g .target < 6) ⌝ }
-    ensures { λ _. ⌜ ((f : ℕ → ℕ) → Shows (now (planes .entry)) f → (d : ℕ) → d < 3 → Plane (now (new .exit)) d (λ p. holds d (digit 3 (g .target) (applied g (f p))))) ⌝ }
+    ensures { λ _. ⌜ ((n : ℕ) (f : ℕ → ℕ) → Shows n (now (planes .entry)) f → (d : ℕ) → d < 3 → Plane n (now (new .exit)) d (λ p. holds d (digit 3 (g .target) (applied g (f p))))) ⌝ }
 {
     let line = g.target as usize;
     let to_zero = source(g.operator, 0);
@@ -95,7 +95,7 @@ fn store(planes: &mut [u64], at: usize, new: &[u64])
 // A gate: the target's plane for none stays as it is.
 fn act(planes: &mut [u64], g: Gate, new: &mut [u64])
     requires { ⌜ (length (now planes) ≡ 288) × (length (now new) ≡ 36) × (1 ≤ g .operator) × (g .operator ≤ 5) × (g .target < 6) ⌝ }
-    ensures { λ _. ⌜ ((f : ℕ → ℕ) → Shows (now (planes .entry)) f → Shows (now (planes .exit)) (λ p. applied g (f p))) ⌝ }
+    ensures { λ _. ⌜ ((n : ℕ) (f : ℕ → ℕ) → Shows n (now (planes .entry)) f → Shows n (now (planes .exit)) (λ p. applied g (f p))) ⌝ }
 {
     turn(planes, g, new);
     store(planes, 48 * g.target as usize, new);
@@ -104,7 +104,7 @@ fn act(planes: &mut [u64], g: Gate, new: &mut [u64])
 // The gates of a cascade that was checked, first to last.
 pub fn run(lines: u8, cascade: &[u8], m: usize, planes: &mut [u64], new: &mut [u64])
     requires { ⌜ Whole lines (now cascade) m × (length (now planes) ≡ 288) × (length (now new) ≡ 36) ⌝ }
-    ensures { λ _. ⌜ ((f : ℕ → ℕ) → Shows (now (planes .entry)) f → Shows (now (planes .exit)) (λ p. ran (gatesOf (now (cascade .entry))) (f p))) ⌝ }
+    ensures { λ _. ⌜ ((n : ℕ) (f : ℕ → ℕ) → Shows n (now (planes .entry)) f → Shows n (now (planes .exit)) (λ p. ran (gatesOf (now (cascade .entry))) (f p))) ⌝ }
 {
     let mut i: usize = 0;
     while i < m {

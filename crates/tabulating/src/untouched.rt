@@ -1,6 +1,6 @@
 // The planes of inputs that no gate has touched: input p is pattern p.
 ghost use mathlib.Core.Path.{_≡_};
-ghost use Prim.Native.Nat.{ℕ, _+_, _*_, _<_};
+ghost use Prim.Native.Nat.{ℕ, _+_, _*_, _≤_, _<_};
 ghost use lib.ListN.{length, getD};
 ghost use Rattle.tabulating.specs.Planes.{Shows, joined, Laid};
 
@@ -28,13 +28,13 @@ fn lay_input(planes: &mut [u64], p: u16)
     }
 }
 
-// All inputs join, one after the other.
-pub fn lay(planes: &mut [u64])
-    requires { ⌜ (length (now planes) ≡ 288) × ((i : ℕ) → i < 288 → getD (now planes) i 0 ≡ 0) ⌝ }
-    ensures { λ _. ⌜ Shows (now (planes .exit)) (λ p. p) ⌝ }
+// So many inputs join, one after the other.
+pub fn lay(planes: &mut [u64], count: u16)
+    requires { ⌜ (length (now planes) ≡ 288) × ((i : ℕ) → i < 288 → getD (now planes) i 0 ≡ 0) × (count ≤ 729) ⌝ }
+    ensures { λ _. ⌜ Shows count (now (planes .exit)) (λ p. p) ⌝ }
 {
     let mut p: u16 = 0;
-    while p < 729 {
+    while p < count {
         lay_input(planes, p);
         p = p + 1;
     }

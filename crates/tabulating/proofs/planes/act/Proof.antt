@@ -27,10 +27,10 @@ returns : tie.Need-returns
 returns c =
     let t = c .before .before .before .before .before .before .before .before in
     let start = t .before .before .before .before .before in
-    λ f shows.
+    λ n f shows.
     rw (c .before .before .store .ensures)
-    (stepped (start .args .g) (start .args .planes .now) f (start .pre .2) (start .pre .3) (start .pre .4) shows (t .turn .last .1 .1 .0) (start .pre .0)
-    (c .before .before .before .before .before .before .before .new .given ∙ start .pre .1) (t .turn .ensures f shows))
+    (stepped (start .args .g) n (start .args .planes .now) f (start .pre .2) (start .pre .3) (start .pre .4) shows (t .turn .last .1 .1 .0) (start .pre .0)
+    (c .before .before .before .before .before .before .before .new .given ∙ start .pre .1) (t .turn .ensures n f shows))
 
 pub act-spec : {M : Type 1} → statement M
 act-spec =

@@ -25,9 +25,9 @@ content-requires-6 c κs = search needs
 
 returns : tie.Need-returns
 returns c =
-    λ f shows p lp e.
+    λ n f shows p lp e.
     rw (on-and, on-and, on-and, on-and, on-and, c .before .before .before .before .before .content .ensures, c .before .before .before .before .content2 .ensures, c .before .before .before .content3 .ensures, c .before .before .content4 .ensures, c .before .content5 .ensures, c .content6 .ensures, ← e)
-    (all-content (c .before .before .before .before .before .before .before .args .planes .now) f (c .before .before .before .before .before .before .before .args .controls) p shows lp)
+    (all-content n (c .before .before .before .before .before .before .before .args .planes .now) f (c .before .before .before .before .before .before .before .args .controls) p shows lp)
 
 pub firing-spec : {M : Type 1} → statement M
 firing-spec =

@@ -25,7 +25,7 @@ record Going (n : ℕ) (b : List ℕ) (m : ℕ) (planes₀ planes new : List ℕ
   within : i ≤ m
   long : length planes ≡ 288
   size : length new ≡ 36
-  shows : (f : ℕ → ℕ) → Shows planes₀ f → Shows planes (λ p. ran (span (gateOf b) 0 i) (f p))
+  shows : (count : ℕ) (f : ℕ → ℕ) → Shows count planes₀ f → Shows count planes (λ p. ran (span (gateOf b) 0 i) (f p))
 
 abbrev Inv-loop : tie.InvT-loop
 Inv-loop lines cascade m planes₀ new₀ i₀ planes new i = Going lines cascade m planes₀ planes new i
@@ -56,7 +56,7 @@ loop-holds c =
       within = omega arith;
       long = start .pre .1;
       size = start .pre .2;
-      shows = λ f. shows-ext _ f _ (λ p. sym (rw (span-none (gateOf _) 0) (through-nil applied (f p))));
+      shows = λ count f. shows-ext count _ f _ (λ p. sym (rw (span-none (gateOf _) 0) (through-nil applied (f p))));
     }
 
 mul-word-at : tie.Need-mul-word-at Inv-loop μ-loop
@@ -91,7 +91,7 @@ loop-again c =
       within = omega (arith, g .before .before .before .loop-test .taken);
       long = c .before .before .before .planes .given ∙ i .long;
       size = c .before .new .given ∙ i .size;
-      shows = λ f now. shows-ext _ _ _ (λ p. rw (is g) (sym (run-snoc _ _ (f p)))) (c .before .before .before .before .act .ensures _ (i .shows f now));
+      shows = λ count f now. shows-ext count _ _ _ (λ p. rw (is g) (sym (run-snoc _ _ (f p)))) (c .before .before .before .before .act .ensures count _ (i .shows count f now));
     }
 
 same-length : tie.Need-same-length Inv-loop μ-loop
@@ -105,7 +105,7 @@ unfolding gatesOf
 returns c =
     let i = c .before .loop .inv in
     let e : c .before .loop .i ≡ length (c .before .before .before .before .before .args .cascade .now) / 8 = omega (arith, i .whole .size, i .within, c .loop-test .left) in
-    λ f now. rw e at (i .shows f now)
+    λ count f now. rw e at (i .shows count f now)
 
 pub run-spec : {M : Type 1} → statement M
 run-spec =

@@ -14,7 +14,7 @@ use Rattle.tabulating.proofs.planes.turn.Tie as tie
 
 record Going (planes : List ℕ) (g : Gate) (new : List ℕ) (j : ℕ) : Type 0 where
   size : length new ≡ 36
-  begun : (f : ℕ → ℕ) → Shows planes f → Begun (after g f) new j
+  begun : (n : ℕ) (f : ℕ → ℕ) → Shows n planes f → Begun n (after g f) new j
 
 abbrev Inv-loop : tie.InvT-loop
 Inv-loop planes g new₀ line to-zero to-one j₀ new j = Going planes g new j
@@ -32,7 +32,7 @@ source-requires-2 : tie.Need-source-requires-2 Inv-loop μ-loop
 source-requires-2 c κs = search needs
 
 loop-holds : tie.Need-loop-holds Inv-loop μ-loop
-loop-holds c = record { size = c .before .before .before .before .before .pre .1; begun = λ f shows d p ld lp lt. absurd (omega arith) }
+loop-holds c = record { size = c .before .before .before .before .before .pre .1; begun = λ n f shows d p ld lp lt. absurd (omega arith) }
 
 firing-requires : tie.Need-firing-requires Inv-loop μ-loop
 firing-requires c κs = search needs
@@ -81,20 +81,20 @@ loop-again c =
     let b = start .args .planes .now in
     record {
       size = simp length-set (l .loop .inv .size);
-      begun = λ f shows.
-          let fires = c .before .before .firing .ensures f shows in
-          let word = turned-word g b f (start .pre .2) (start .pre .3) (start .pre .4) shows in
+      begun = λ n f shows.
+          let fires = c .before .before .firing .ensures n f shows in
+          let word = turned-word g n b f (start .pre .2) (start .pre .3) (start .pre .4) shows in
           let zero = word 0 _ _ _ _ (omega arith) (l .before .before .source .ensures .0) fires (c .before .turned .ensures) in
           let one = word 1 _ _ _ _ (omega arith) (l .before .source2 .ensures .0) fires (c .turned2 .ensures) in
-          three-stored (after g f) (l .loop .new) _ _ _ _ (l .loop .inv .size) (c .before .before .before .loop-test .taken) zero one
-          (neither-word g b f (start .pre .2) (start .pre .3) (start .pre .4) shows _ _ _ zero one) (l .loop .inv .begun f shows);
+          three-stored n (after g f) (l .loop .new) _ _ _ _ (shows .few) (l .loop .inv .size) (c .before .before .before .loop-test .taken) zero one
+          (neither-word g n b f (start .pre .2) (start .pre .3) (start .pre .4) shows _ _ _ zero one) (l .loop .inv .begun n f shows);
     }
 
 same-length : tie.Need-same-length Inv-loop μ-loop
 same-length c = c .before .loop .inv .size ∙ sym (c .before .before .before .before .before .before .before .pre .1)
 
 returns : tie.Need-returns Inv-loop μ-loop
-returns c = λ f shows d ld p lp. c .before .loop .inv .begun f shows d p ld lp (omega (arith, c .loop-test .left))
+returns c = λ n f shows d ld p lp. c .before .loop .inv .begun n f shows d p ld lp (omega (arith, shows .few, c .loop-test .left))
 
 pub turn-spec : {M : Type 1} → statement M
 turn-spec =

@@ -10,10 +10,10 @@ use Rattle.tabulating.proofs.untouched.lay.Statement.{statement}
 use Rattle.tabulating.proofs.untouched.lay.Tie as tie
 
 abbrev Inv-loop : tie.InvT-loop
-Inv-loop planes₀ p₀ planes p = (length planes ≡ 288) × (p ≤ 729) × Laid planes (6 * p)
+Inv-loop planes₀ count p₀ planes p = (length planes ≡ 288) × (p ≤ count) × Laid planes (6 * p)
 
 abbrev μ-loop : tie.MeasureT-loop
-μ-loop planes₀ p₀ planes p = 729 - p
+μ-loop planes₀ count p₀ planes p = count - p
 
 loop-holds : tie.Need-loop-holds Inv-loop μ-loop
 loop-holds c = (c .before .pre .0, omega arith, laid-start _ (c .before .pre .1))
@@ -36,7 +36,7 @@ same-length : tie.Need-same-length Inv-loop μ-loop
 same-length c = c .before .loop .inv .0 ∙ sym (c .before .before .before .pre .0)
 
 returns : tie.Need-returns Inv-loop μ-loop
-returns c = laid-shows _ (6 * c .before .loop .p) (omega (arith, c .loop-test .left)) (c .before .loop .inv .2)
+returns c = laid-shows _ _ (6 * c .before .loop .p) (c .before .before .before .pre .2) (omega (arith, c .loop-test .left)) (c .before .loop .inv .2)
 
 pub lay-spec : {M : Type 1} → statement M
 lay-spec =
