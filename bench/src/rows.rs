@@ -29,15 +29,16 @@ pub fn print(report: &mut Report) {
 
 fn synthesis(report: &mut Report) {
     for lines in 1..=6 {
-        let mut line = |call, tables: &[Vec<u16>]| {
-            let aim = (lines == 6).then_some(SYNTHESIS);
+        let mut line = |call, aim: Option<f64>, tables: &[Vec<u16>]| {
+            let aim = aim.filter(|_| lines == 6);
             let what = What { call, lines, size: patterns(lines), aim };
             report.line(what, |timer| timer.synthesize(lines, tables));
         };
-        line("synthesize, drawn tables in turn", &drawn_tables(lines, 50));
-        line("synthesize, the identity", &[identity(lines)]);
-        line("synthesize, the door counter", &[counter(lines)]);
-        line("synthesize, a table that reaches the bound", &[hardest(lines)]);
+        line("synthesize, drawn tables in turn", Some(SYNTHESIS), &drawn_tables(lines, 50));
+        // The second program looks for the identity first.
+        line("synthesize, the identity", None, &[identity(lines)]);
+        line("synthesize, the door counter", Some(SYNTHESIS), &[counter(lines)]);
+        line("synthesize, a table that reaches the bound", Some(SYNTHESIS), &[hardest(lines)]);
     }
     let all = all_tables(patterns(2) as u16);
     let call = "synthesize, all two-line tables in one go";
@@ -95,7 +96,9 @@ fn texts(report: &mut Report) {
     let table = &drawn_tables(6, 1)[0];
     let found = &synthesized(6, table);
     let hardest = &hardest(6);
-    report.line(on("listing, drawn gates", drawn), |timer| timer.listing(6, drawn));
+    // A listing has the cost in its head line, so it waits for pricing too.
+    let listing = What { aim: None, ..on("listing, drawn gates", drawn) };
+    report.line(listing, |timer| timer.listing(6, drawn));
     report.line(on("listing, a synthesized cascade", found), |timer| timer.listing(6, found));
     let on_table = |call| What { call, lines: 6, size: patterns(6), aim: None };
     report.line(on_table("sheet, a drawn table"), |timer| timer.sheet(6, table));
