@@ -1,8 +1,8 @@
 -- The gate of the procedure: it is a gate on n lines, and it fires on a pattern exactly if every line but its target holds the digit of a. Its controls are
--- made from the digits of a, all at once (`controls-made`). Assumes nothing.
-use mathlib.Core.Path.{_≡_, refl, sym, _∙_}
+-- made from those that name a (`controls-made`), and these from the digits of a, all at once (`full-made`). Assumes nothing.
+use mathlib.Core.Path.{_≡_, refl, sym, ap, _∙_}
 use mathlib.Core.Bool.{Bool, true, false, cond, _||_, or-true}
-use mathlib.Core.Logic.{_⊎_, ⊎-elim}
+use mathlib.Core.Logic.{_⊎_}
 use Prim.Native.Nat.{ℕ, _+_, _-_, _*_, _%_, _^_, _≤_, _<_}
 use native.Mathlib.Nat.{add-zero}
 use native.Mathlib.Decide.{ℕ-discrete}
@@ -14,12 +14,13 @@ use Rattle.ranges.proofs.Counts.{lt-or-le}
 use Rattle.ranges.proofs.Tests.{every-below, every-of}
 use Rattle.digits.specs.Digits.{digit, put, pack}
 use Rattle.digits.proofs.Digits.{digit-lt, digit-high, put-value}
-use Rattle.digits.proofs.Packs.{digit-pack, pack-lt, pack-add, pack-replaced}
+use Rattle.digits.proofs.Packs.{digit-pack, pack-lt, pack-ext, pack-add, pack-replaced}
 use Rattle.digits.proofs.Sizes.{three-pos}
 use Rattle.gates.specs.Gates.{control, holds, firesOn, fires, IsGate}
 use Rattle.gates.specs.Quads.{quad}
 use Rattle.gates.proofs.Gates.{holds-none}
 use Rattle.synthesis.specs.Synthesis.{controlFor, gateFor}
+use Rattle.synthesis.specs.Steps.{fullControls}
 use Rattle.synthesis.proofs.Exchangers.{exchanger-op}
 
 -- ---- a control and the value of its line
@@ -95,7 +96,49 @@ module _ (n k a d : ℕ) where
         let c : control (gateFor n k a d) j ≡ digit 3 j a = gate-control j (omega arith) ∙ control-line n k a j lt ne in
         equal-holds (digit 3 j a) (digit 3 j p) (digit-lt 3 j a three-pos) (rw c at (every-below _ 6 e j (omega arith)))
 
--- ---- the controls as the code makes them: the digits of a, 3 added from line n up, and the one on line k replaced
+-- ---- the controls that name a pattern
+
+abbrev named : ℕ → ℕ → ℕ → ℕ
+named n a j = cond (leb n j) 3 (digit 3 j a)
+
+named-lt : (n a j : ℕ) → named n a j < 4
+named-lt n a j = go (leb n j) (digit-lt 3 j a three-pos)
+  where
+    go : (b : Bool) → digit 3 j a < 3 → cond b 3 (digit 3 j a) < 4
+    go true lt = omega arith
+    go false lt = omega arith
+
+module _ (n a : ℕ) where
+  pub full-lt : fullControls n a < 4 ^ 6
+  unfolding fullControls
+  full-lt = pack-lt 4 (named n a) 6 (λ j lt. named-lt n a j)
+
+  full-digit : (j : ℕ) → j < 6 → digit 4 j (fullControls n a) ≡ named n a j
+  unfolding fullControls
+  full-digit j lt = digit-pack 4 (named n a) 6 (λ i l. named-lt n a i) j lt
+
+  pub full-past : (j : ℕ) → n ≤ j → j < 6 → digit 4 j (fullControls n a) ≡ 3
+  full-past j le lt = full-digit j lt ∙ rw (le-leb n j le)
+
+  module _ (lines : n ≤ 6) where
+    pub full-line : (j : ℕ) → j < n → digit 4 j (fullControls n a) ≡ digit 3 j a
+    full-line j lt = full-digit j (omega arith) ∙ rw (lt-leb n j lt)
+
+    -- those of the gate for line k: the one on line k replaced
+    pub controls-made : (k : ℕ) → k < n → put 4 k (fullControls n a) 3 ≡ pack 4 (controlFor n k a) 6
+    unfolding fullControls controlFor
+    controls-made k line =
+        let old = digit-pack 4 (named n a) 6 (λ i l. named-lt n a i) k (omega arith) in
+        omega (arith, rw old at (put-value 4 k (pack 4 (named n a) 6) 3), rw (control-target n k a) at (pack-replaced 4 (controlFor n k a) (named n a) k same 6 (omega arith)))
+      where
+        same : (j : ℕ) → (j ≡ k → ⊥) → controlFor n k a j ≡ named n a j
+        same j ne = rw (ne-eqb j k ne)
+
+-- two patterns with the same digit on a line
+pub full-same : (n a b j : ℕ) → j < 6 → digit 3 j a ≡ digit 3 j b → digit 4 j (fullControls n a) ≡ digit 4 j (fullControls n b)
+full-same n a b j lt e = full-digit n a j lt ∙ ap (cond (leb n j) 3) e ∙ sym (full-digit n b j lt)
+
+-- ---- as the code makes them: the digits of a, and 3 added from line n up
 
 none : ℕ → ℕ → ℕ
 none n j = cond (leb n j) 3 0
@@ -110,35 +153,14 @@ none-packed n lines = (
   leb-true (shift n) 4096 (every-below (λ n. leb (shift n) 4096) 7 refl n (omega arith)),
 )
 
-module _ (n k a q : ℕ) (lines : n ≤ 6) (line : k < n) (below : a < 3 ^ n) (eq : q ≡ quad a) where
-  wide : ℕ → ℕ
-  wide j = digit 3 j a + none n j
+pub none-fits : (n : ℕ) → n ≤ 6 → shift n ≤ 4096
+none-fits n lines = none-packed n lines .1
 
-  wide-line : (j : ℕ) → j < n → wide j ≡ digit 3 j a
-  unfolding wide none
-  wide-line j lt = rw (lt-leb n j lt) (add-zero _)
-
-  wide-past : (j : ℕ) → n ≤ j → wide j ≡ 3
-  unfolding wide none
-  wide-past j le = rw (le-leb n j le, digit-high 3 n j a three-pos below le)
-
-  wide-lt : (j : ℕ) → j < 6 → wide j < 4
-  wide-lt j lt =
-      ⊎-elim (λ (l : j < n). rw (wide-line j l) (omega (arith, digit-lt 3 j a three-pos))) (λ (l : n ≤ j). rw (wide-past j l) (omega arith)) (lt-or-le j n)
-
-  wide-sum : q + (4096 - shift n) ≡ pack 4 wide 6
-  unfolding quad wide
-  wide-sum = omega (arith, eq, none-packed n lines .0, pack-add 4 (λ j. digit 3 j a) (none n) 6)
-
-  wide-else : (j : ℕ) → (j ≡ k → ⊥) → controlFor n k a j ≡ wide j
-  wide-else j ne =
-      ⊎-elim (λ (l : j < n). control-line n k a j l ne ∙ sym (wide-line j l)) (λ (l : n ≤ j). control-past n k a j l ∙ sym (wide-past j l)) (lt-or-le j n)
-
-  pub controls-fit : (shift n ≤ 4096) × (q + (4096 - shift n) < 4096)
-  controls-fit = (none-packed n lines .1, rw wide-sum (pack-lt 4 wide 6 wide-lt))
-
-  pub controls-made : put 4 k (q + (4096 - shift n)) 3 ≡ pack 4 (controlFor n k a) 6
-  controls-made =
-      let old = digit-pack 4 wide 6 wide-lt k (omega arith) in
-      rw wide-sum
-      (omega (arith, rw old at (put-value 4 k (pack 4 wide 6) 3), rw (control-target n k a) at (pack-replaced 4 (controlFor n k a) wide k wide-else 6 (omega arith))))
+pub full-made : (n a q : ℕ) → n ≤ 6 → a < 3 ^ n → q ≡ quad a → q + (4096 - shift n) ≡ fullControls n a
+unfolding quad fullControls none
+full-made n a q lines below eq =
+    omega (arith, eq, none-packed n lines .0, pack-add 4 (λ j. digit 3 j a) (none n) 6) ∙ pack-ext 4 (λ j. digit 3 j a + none n j) (named n a) 6 (λ j lt. same j (lt-or-le j n))
+  where
+    same : (j : ℕ) → (j < n) ⊎ (n ≤ j) → digit 3 j a + none n j ≡ named n a j
+    same j (_⊎_.inl l) = rw (lt-leb n j l) (add-zero _)
+    same j (_⊎_.inr l) = rw (le-leb n j l, digit-high 3 n j a three-pos below l)

@@ -1,4 +1,4 @@
--- Words laid into a list from its end to its start: none, those of one digit, and a run before another. At last the list ends with them all, and their bytes
+-- Words laid into a list from its end to its start: none, that of one gate, and a run before another. At last the list ends with them all, and their bytes
 -- are the cascade (`cascade-laid`). Assumes nothing.
 use mathlib.Core.Path.{_≡_, refl, sym, ap, _∙_}
 use mathlib.Core.List.{List, [], _∷_, _++_, map, flatMap, flatten, map-append, append-nil, append-assoc}
@@ -16,32 +16,28 @@ use Rattle.gates.specs.Records.{recordOf}
 use Rattle.gates.specs.Words.{bytesIn}
 use Rattle.cascades.specs.Cascades.{bytesOf}
 use Rattle.cascades.proofs.Stored.{length-bytes}
-use Rattle.synthesis.specs.Steps.{Words, Lays}
+use Rattle.synthesis.specs.Steps.{Lays}
 
 -- ---- runs
 
 pub lays-none : (e : ℕ) (ws : List ℕ) → Lays [] e e ws ws
 lays-none e ws = record { count = add-zero e; size = refl; words = refl }
 
-pub words-count : (gs : List Gate) (ws : List ℕ) → Words gs ws → length ws ≡ length gs
-words-count gs ws w = sym (length-map ws bytesIn) ∙ ap length (w .bytes) ∙ length-map gs recordOf
-
--- the words l
-pub lays-words : (gs : List Gate) (e e′ : ℕ) (ws ws′ l : List ℕ) → Words gs l → length ws′ ≡ length ws → e + length l ≡ e′ → drop e ws′ ≡ l ++ drop e′ ws → Lays gs e e′ ws ws′
-lays-words gs e e′ ws ws′ l w long count is =
-    record {
-      count = omega (arith, words-count gs l w, count);
-      size = long;
-      words = ap (map bytesIn) is ∙ map-append bytesIn l (drop e′ ws) ∙ ap (λ (x : List (List ℕ)). x ++ map bytesIn (drop e′ ws)) (w .bytes);
-    }
-
 -- a word right before others
-pub word-laid : (w e : ℕ) (ws : List ℕ) → 1 ≤ e → e ≤ length ws → drop (e - 1) (set ws (e - 1) w) ≡ w ∷ drop e ws
+word-laid : (w e : ℕ) (ws : List ℕ) → 1 ≤ e → e ≤ length ws → drop (e - 1) (set ws (e - 1) w) ≡ w ∷ drop e ws
 word-laid w e ws some le =
     let next : suc (e - 1) ≡ e = omega arith in
     let there : getD (set ws (e - 1) w) (e - 1) 0 ≡ w = getD-set-same ws (e - 1) w 0 (omega arith) in
     let beyond : drop (suc (e - 1)) (set ws (e - 1) w) ≡ drop (suc (e - 1)) ws = drop-set-lt (suc (e - 1)) ws (e - 1) w (omega arith) in
     rw (there, beyond, next) at (drop-cons (set ws (e - 1) w) (e - 1) 0 (omega (arith, length-set ws (e - 1) w)))
+
+pub lays-word : (g : Gate) (w e : ℕ) (ws : List ℕ) → bytesIn w ≡ recordOf g → 1 ≤ e → e ≤ length ws → Lays (g ∷ []) (e - 1) e ws (set ws (e - 1) w)
+lays-word g w e ws is some le =
+    record {
+      count = omega arith;
+      size = length-set ws (e - 1) w;
+      words = ap (map bytesIn) (word-laid w e ws some le) ∙ ap (λ (x : List ℕ). x ∷ map bytesIn (drop e ws)) is;
+    }
 
 -- a run before another
 pub lays-more : (gs hs : List Gate) (e e′ c : ℕ) (ws ws′ ws″ : List ℕ) → Lays gs e c ws ws′ → Lays hs e′ e ws′ ws″ → Lays (hs ++ gs) e′ c ws ws″

@@ -1,8 +1,10 @@
--- The tables as the code moves them are those of the procedure: one digit (`step-not`, `step-gate`), a row digit by digit (`row-none`, `row-more`), the rows one
+-- The tables as the code moves them are those of the procedure: one digit that differs (`step-gate`), a row gate by gate (`row-none`, `row-skip`,
+-- `row-more`), the rows one
 -- by one (`rows-none`, `rows-more`), with the inverse kept beside the table. Assumes nothing.
 use mathlib.Core.Path.{_≡_, refl, sym, ap, _∙_}
 use mathlib.Core.List.{List, [], _∷_, _++_, map}
 use Prim.Native.Nat.{ℕ, _+_, _^_, _≤_, _<_}
+use native.Mathlib.Decide.{le-ind}
 use native.Mathlib.Numerals.{add-one}
 use native.Mathlib.Omega.{arith}
 use lib.ListN.{length, getD, length-map, length-append}
@@ -13,7 +15,7 @@ use Rattle.digits.proofs.Digits.{digit-lt, put-lt}
 use Rattle.digits.proofs.Sizes.{three-pos}
 use Rattle.gates.specs.declared.Gate.{Gate}
 use Rattle.gates.specs.Gates.{applied}
-use Rattle.procedure.specs.Procedure.{State, adding, rowSteps, rows, settled, cascadeFor}
+use Rattle.procedure.specs.Procedure.{State, adding, digitStep, rowSteps, rows, settled, cascadeFor}
 use Rattle.procedure.specs.Exchanges.{exchanged}
 use Rattle.procedure.proofs.Steps.{begun, step-same, step-other, row-next, row-grows, rows-next, rows-grow}
 use Rattle.procedure.proofs.Swaps.{gate-exchanges}
@@ -34,9 +36,6 @@ module _ (n i k a d : ℕ) (t v : List ℕ) (w : Present n t v) (below : i < 3 ^
 
   pub changed-lt : put 3 k a d < 3 ^ n
   changed-lt = put-lt 3 n k a d entry-lt line value-lt
-
-  pub step-not : digit 3 k a ≡ d → stepFrom n i k t ≡ begun t
-  step-not e = step-same 3 applied gateFor n i k (begun t) (rw (← ea) (e ∙ ed))
 
   module _ (ne : digit 3 k a ≡ d → ⊥) where
     exchanges : map (applied (gateFor n k a d)) t ≡ map (exchanged a (put 3 k a d)) t
@@ -67,6 +66,16 @@ exchanged-there n t v t′ v′ f z w e pair q =
 pub row-none : (n i : ℕ) (t : List ℕ) → rowFrom n i 0 t ≡ begun t
 unfolding rowSteps
 row-none n i t = refl
+
+-- lines on which the entry has the digits of its row add nothing
+pub row-skip : (n i j k : ℕ) (t : List ℕ) → j ≤ k → ((l : ℕ) → j ≤ l → l < k → digit 3 l (getD (rowFrom n i j t .table) i 0) ≡ digit 3 l i)
+    → rowFrom n i k t ≡ rowFrom n i j t
+unfolding rowSteps
+row-skip n i j k t le =
+    le-ind (λ k. ((l : ℕ) → j ≤ l → l < k → digit 3 l (getD (rowFrom n i j t .table) i 0) ≡ digit 3 l i) → rowFrom n i k t ≡ rowFrom n i j t) (λ h. refl)
+    (λ m lo ih h.
+    ap (digitStep 3 applied gateFor n i m) (ih (λ l x y. h l x (omega arith)))
+    ∙ step-same 3 applied gateFor n i m (rowFrom n i j t) (h m lo (omega arith))) k le
 
 module _ (n i k : ℕ) (t t′ v′ : List ℕ) (at : Reached n (rowFrom n i k t) t′ v′) where
   pub row-found : rowFrom n i (k + 1) t .found ≡ stepFrom n i k t′ .found ++ rowFrom n i k t .found

@@ -1,14 +1,16 @@
 -- What the inner functions of synthesis do, in the words of the procedure.
 use Prim.Native.Nat.{ℕ, _+_, _^_, _≤_, _<_}
 use mathlib.Core.Path.{_≡_}
-use mathlib.Core.List.{List, [], _∷_, _++_, map}
+use mathlib.Core.Bool.{cond}
+use mathlib.Core.List.{List, [], _++_, map}
+use lib.Dec.{leb}
 use lib.ListN.{length, getD, drop}
+use Rattle.digits.specs.Digits.{digit, pack}
 use Rattle.gates.specs.declared.Gate.{Gate}
 use Rattle.gates.specs.Gates.{applied}
 use Rattle.gates.specs.Records.{recordOf}
 use Rattle.gates.specs.Words.{bytesIn}
 use Rattle.procedure.specs.Procedure.{State, digitStep, rowSteps, rows}
-use Rattle.synthesis.specs.declared.settling.Added.{Added}
 use Rattle.synthesis.specs.Synthesis.{gateFor}
 
 -- digit k of row i, the digits below k of row i, and the rows below i: each from the table t on, with no gate added before
@@ -44,16 +46,32 @@ pub record Reached (n : ℕ) (z : State Gate) (t v : List ℕ) : Type 0 where
   pub table : t ≡ z .table
   pub present : Present n t v
 
+-- ---- the controls that name a pattern
+
+-- on n lines: the digits of a, and none, 3, from line n up
+unfoldable pub fullControls : ℕ → ℕ → ℕ
+fullControls n a = pack 4 (λ j. cond (leb n j) 3 (digit 3 j a)) 6
+
+-- full has those of each pattern
+pub record Names (n : ℕ) (full : List ℕ) : Type 0 where
+  pub size : 3 ^ n ≤ length full
+  pub each : (p : ℕ) → p < 3 ^ n → getD full p 0 ≡ fullControls n p
+
+-- r is the first line on which left has a digit other than 0
+pub record Lowest (left r : ℕ) : Type 0 where
+  pub line : r < 6
+  pub some : 0 < digit 4 r left
+  pub none : (j : ℕ) → j < r → digit 4 j left ≡ 0
+
+-- row i of the table t on n lines, whatever n is, and room for its gates before the place e
+pub record Row (i : ℕ) (full t v : List ℕ) (e : ℕ) : Type 0 where
+  pub n : ℕ
+  pub names : Names n full
+  pub present : Present n t v
+  pub row : i < 3 ^ n
+  pub room : length (rowFrom n i n t .found) ≤ e
+
 -- ---- gates as words
-
--- the word that was added, if one was
-abbrev pub wordsIn : Added → List ℕ
-wordsIn (Added.Word w) = w ∷ []
-wordsIn Added.Nothing = []
-
--- ws are the words of the gates
-pub record Words (gs : List Gate) (ws : List ℕ) : Type 0 where
-  pub bytes : map bytesIn ws ≡ map recordOf gs
 
 -- the words of the gates stand from place e up to place e′ of ws′; from there on it is as ws is, and what stands before e is no matter
 pub record Lays (gs : List Gate) (e e′ : ℕ) (ws ws′ : List ℕ) : Type 0 where

@@ -1,7 +1,10 @@
-// The gate that is added for a digit.
+// The gate that is added for a digit, and the controls that it is made from.
 ghost use mathlib.Core.Path.{_≡_};
-ghost use Prim.Native.Nat.{_^_, _≤_, _<_};
+ghost use Prim.Native.Nat.{ℕ, _^_, _≤_, _<_};
+ghost use lib.ListN.{length};
+ghost use Rattle.digits.specs.Digits.{digit};
 ghost use Rattle.synthesis.specs.Synthesis.{exchanger, gateFor};
+ghost use Rattle.synthesis.specs.Steps.{fullControls, Names};
 use gates::Gate;
 
 // The operator among N, D, E that exchanges two digit values.
@@ -18,16 +21,28 @@ fn exchanger_of(x: u16, y: u16) -> u8
     5
 }
 
-// The gate that exchanges digit k of a with d, where all other lines are as in a. Its controls are the digits of a, but none, 3, from line n up and on line k.
-pub fn gate_for(n: usize, k: usize, a: u16, d: u16) -> Gate
-    requires { ⌜ (n ≤ 6) × (k < n) × (a < 3 ^ n) × (d < 3) ⌝ }
-    ensures { λ r. ⌜ r ≡ gateFor n k a d ⌝ }
+// The controls that name each pattern on n lines, made once for all gates: its digits, and none, 3, from line n up.
+pub fn name_patterns(n: usize, full: &mut [u16])
+    requires { ⌜ (n ≤ 6) × (length (now full) ≡ 729) ⌝ }
+    ensures { λ _. ⌜ Names n (now (full .exit)) ⌝ }
 {
-    let q = gates::quads::quad_of(a);
-    let lines: u16 = 1 << (2 * n);
+    let size = digits::power(n) as usize;
+    let none: u16 = 4096 - (1 << (2 * n));
+    let mut p: usize = 0;
+    while p < size {
+        full[p] = gates::quads::quad_of(p as u16) + none;
+        p += 1;
+    }
+}
+
+// The gate that exchanges digit k of a with d, where all other lines are as in a. Its controls are those that name a, but none, 3, on line k.
+pub fn gate_for(k: usize, controls: u16, d: u16) -> Gate
+    requires { ⌜ (k < 6) × (controls < 4 ^ 6) × (digit 4 k controls < 3) × (d < 3) ⌝ }
+    ensures { λ r. ⌜ ((n a : ℕ) → n ≤ 6 → k < n → controls ≡ fullControls n a → r ≡ gateFor n k a d) ⌝ }
+{
     Gate {
-        operator: exchanger_of(gates::controls::control_on(q, k), d),
+        operator: exchanger_of(gates::controls::control_on(controls, k), d),
         target: k as u8,
-        controls: gates::controls::with_control(q + (4096 - lines), k, 3),
+        controls: gates::controls::with_control(controls, k, 3),
     }
 }

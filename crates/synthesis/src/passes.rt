@@ -23,19 +23,37 @@ fn copy(given: &[u16], table: &mut [u16])
     }
 }
 
-// All rows: the words of the gates, up to the end of the room for them. Says where they begin.
+// All rows, with a lent array for the controls that name the patterns: the words of the gates, up to the end of the room for them. Says where they begin.
+fn find_rows(
+    n: usize,
+    full: &mut [u16],
+    table: &mut [u16],
+    inverse: &mut [u16],
+    words: &mut [u64],
+) -> usize
+    requires { ⌜ Present n (now table) (now inverse) ⌝ }
+    requires { ⌜ length (now full) ≡ 729 ⌝ }
+    requires { ⌜ length (synthesized n (now table)) ≤ length (now words) ⌝ }
+    ensures { λ r. ⌜ Lays (synthesized n (now (table .entry))) r (length (now (words .entry))) (now (words .entry)) (now (words .exit)) ⌝ }
+{
+    crate::making::name_patterns(n, full);
+    let mut start = words.len();
+    let mut i: usize = 0;
+    while i < table.len() {
+        start = crate::settling::find_row(i, full, table, inverse, words, start);
+        i += 1;
+    }
+    start
+}
+
+// The same, with no array lent.
 fn find_gates(n: usize, table: &mut [u16], inverse: &mut [u16], words: &mut [u64]) -> usize
     requires { ⌜ Present n (now table) (now inverse) ⌝ }
     requires { ⌜ length (synthesized n (now table)) ≤ length (now words) ⌝ }
     ensures { λ r. ⌜ Lays (synthesized n (now (table .entry))) r (length (now (words .entry))) (now (words .entry)) (now (words .exit)) ⌝ }
 {
-    let mut start = words.len();
-    let mut i: usize = 0;
-    while i < table.len() {
-        start = crate::settling::find_row(n, i, table, inverse, words, start);
-        i += 1;
-    }
-    start
+    let mut full = [0u16; 729];
+    find_rows(n, &mut full, table, inverse, words)
 }
 
 // The records of the words, stored one after the other.

@@ -1,80 +1,221 @@
--- `synthesis::settling::find_row` meets its contract: after k digits the tables are those of the procedure, and its gates' words stand before the end.
+-- `synthesis::settling::find_row` meets its contract: each turn adds the gate of the next line that differs, and where none is left the row is done.
 -- Assumes nothing.
-use mathlib.Core.Path.{_≡_}
+use denote.Ref.{now}
+use mathlib.Core.Path.{_≡_, refl, sym, ap, _∙_}
 use mathlib.Core.List.{List}
-use Prim.Native.Nat.{ℕ, _-_, _≤_}
+use Prim.Native.Nat.{ℕ, _-_, _^_, _≤_, _<_}
+use lib.ListN.{length, getD, length-set}
 use native.Mathlib.Omega.{arith}
-use Rattle.synthesis.specs.Steps.{rowFrom, Reached, Lays}
-use Rattle.synthesis.proofs.Pairings.{same-sizes}
-use Rattle.synthesis.proofs.Moves.{still, row-none, row-found, row-more, row-room}
-use Rattle.synthesis.proofs.Layings.{lays-none, words-count, lays-words, lays-more}
+use Rattle.digits.specs.Digits.{digit, put}
+use Rattle.digits.proofs.Digits.{digit-lt, put-lt}
+use Rattle.digits.proofs.Sizes.{three-pos, patterns-most}
+use Rattle.gates.specs.Records.{recordOf}
+use Rattle.synthesis.specs.Steps.{rowFrom, fullControls, Reached, Lowest, Row, Lays}
+use Rattle.synthesis.proofs.Controls.{full-lt, full-line}
+use Rattle.synthesis.proofs.Lines.{differing-lt, put-less}
+use Rattle.synthesis.proofs.Pairings.{present-permutation, same-sizes}
+use Rattle.synthesis.proofs.Moves.{entry-lt, changed-lt}
+use Rattle.synthesis.proofs.Rows.{Going, going-start, going-end, entry-below, line, digit-came, some-room, going-turn, on-lines}
 use borrow.Author.Needs.{needs}
 use Rattle.synthesis.proofs.settling.find_row.Statement.{statement}
 use Rattle.synthesis.proofs.settling.find_row.Tie as tie
 
-record Going (n i : ℕ) (t₀ ws₀ : List ℕ) (end : ℕ) (t v ws : List ℕ) (e k : ℕ) : Type 0 where
-  within : k ≤ n
-  at : Reached n (rowFrom n i k t₀) t v
-  laid : Lays (rowFrom n i k t₀ .found) e end ws₀ ws
-
 abbrev Inv-loop : tie.InvT-loop
-Inv-loop n i table₀ inverse₀ words₀ end start₀ k₀ table inverse words start k = Going n i table₀ words₀ end table inverse words start k
+Inv-loop i full table₀ inverse₀ words₀ end a₀ from to left₀ start₀ table inverse words a left start =
+    (n : ℕ) → length table₀ ≡ 3 ^ n → Going n i from table₀ words₀ end table inverse words a left start
 
 abbrev μ-loop : tie.MeasureT-loop
-μ-loop n i table₀ inverse₀ words₀ end start₀ k₀ table inverse words start k = n - k
+μ-loop i full table₀ inverse₀ words₀ end a₀ from to left₀ start₀ table inverse words a left start = left
+
+-- the row as it comes
+module _ (s : tie.Start Inv-loop μ-loop) where
+  abbrev row : Row (s .args .i) (now (s .args .full)) (now (s .args .table)) (now (s .args .inverse)) (s .args .end)
+  row = s .pre .0
+
+  abbrev n : ℕ
+  n = row .n
+
+  most : 3 ^ n ≤ 729
+  most = patterns-most n (row .present .lines)
+
+  entry : getD (now (s .args .table)) (s .args .i) 0 < 3 ^ n
+  entry = present-permutation _ _ _ (row .present) .within (s .args .i) (row .row)
+
+-- in the loop
+module _ (c : tie.At-loop Inv-loop μ-loop) where
+  abbrev start : tie.Start Inv-loop μ-loop
+  start = c .before .before .before .before .before .before .before .before
+
+  abbrev from : ℕ
+  from = getD (now (start .args .full)) (getD (now (start .args .table)) (start .args .i) 0) 0
+
+  going : Going (n start) (start .args .i) from (now (start .args .table)) (now (start .args .words)) (start .args .end) (c .loop .table) (c .loop .inverse) (c .loop .words) (c .loop .a) (c .loop .left) (c .loop .start)
+  going = c .loop .inv (n start) (row start .present .size)
+
+  low : c .loop .left < 4 ^ 6
+  low = rw (going .lines) (differing-lt (n start) (c .loop .a) (start .args .i))
+
+  present-lt : c .loop .a < 3 ^ (n start)
+  present-lt = entry-below _ _ _ _ _ _ _ _ _ _ _ _ going (row start .row)
+
+  few : c .loop .a < 729
+  few = omega (arith, present-lt, most start)
+
+  named : getD (now (start .args .full)) (c .loop .a) 0 ≡ fullControls (n start) (c .loop .a)
+  named = row start .names .each (c .loop .a) present-lt
+
+-- the line k of the next gate
+module _ (c : tie.After-lowest Inv-loop μ-loop) where
+  abbrev loop : tie.At-loop Inv-loop μ-loop
+  loop = c .before .before
+
+  abbrev k : ℕ
+  k = c .lowest .result
+
+  on : k < n (start loop)
+  on = line _ _ _ _ _ _ _ _ _ _ _ _ (going loop) k (c .lowest .ensures) (row (start loop) .row)
+
+  some : 1 ≤ loop .loop .start
+  some = some-room _ _ _ _ _ _ _ _ _ _ _ _ (going loop) k (c .lowest .ensures) (row (start loop) .row) (row (start loop) .room)
+
+  within : loop .loop .start ≤ length (loop .loop .words)
+  within = omega (arith, going loop .laid .count, going loop .laid .size, start loop .pre .1)
+
+-- x is the digit of the entry, d that of the row
+module _ (c : tie.After-control-on2 Inv-loop μ-loop) where
+  abbrev lowest : tie.After-lowest Inv-loop μ-loop
+  lowest = c .before .before
+
+  d-is : c .before .control-on .result ≡ digit 3 (k lowest) (start (loop lowest) .args .i)
+  d-is =
+      let s = start (loop lowest) in
+      c .before .control-on .ensures ∙ ap (digit 4 (k lowest)) (row s .names .each (s .args .i) (row s .row))
+      ∙ full-line (n s) (s .args .i) (row s .present .lines) (k lowest) (on lowest)
+
+  d-lt : c .before .control-on .result < 3
+  d-lt = rw d-is (digit-lt 3 _ _ three-pos)
+
+  x-is : c .control-on2 .result ≡ digit 3 (k lowest) (loop lowest .loop .a)
+  x-is =
+      c .control-on2 .ensures
+      ∙ digit-came _ _ _ _ _ _ _ _ _ _ _ _ (going (loop lowest)) (k lowest) (lowest .lowest .ensures) (row (start (loop lowest)) .row)
+
+mul-a : tie.Need-mul-a Inv-loop μ-loop
+mul-a c = search needs
+
+slice-read-a : tie.Need-slice-read-a Inv-loop μ-loop
+slice-read-a c = let s = c .before .before .before .before .before in omega (arith, row s .row, row s .present .size)
+
+cast-from : tie.Need-cast-from Inv-loop μ-loop
+cast-from c = let s = c .before .before .before .before .before in omega (arith, entry s, most s)
+
+mul-from : tie.Need-mul-from Inv-loop μ-loop
+mul-from c = let s = c .before .before .before .before .before in omega (arith, entry s, most s)
+
+shared-slice-read-from : tie.Need-shared-slice-read-from Inv-loop μ-loop
+shared-slice-read-from c = let s = c .before .before .before .before .before .before in omega (arith, entry s, row s .names .size)
+
+mul-to : tie.Need-mul-to Inv-loop μ-loop
+mul-to c = search needs
+
+shared-slice-read-to : tie.Need-shared-slice-read-to Inv-loop μ-loop
+shared-slice-read-to c = let s = c .before .before .before .before .before .before .before in omega (arith, row s .row, row s .names .size)
 
 loop-holds : tie.Need-loop-holds Inv-loop μ-loop
 loop-holds c =
-    let none = row-none _ _ _ in record { within = omega arith; at = still _ _ _ _ (c .before .before .before .pre .0) none; laid = rw none (lays-none _ _) }
+    let s = c .before .before .before .before .before .before .before in
+    on-lines _ (n s) _ (row s .present .size)
+    (going-start (n s) (s .args .i) _ _ (now (s .args .table)) (now (s .args .inverse)) (now (s .args .words)) (s .args .end) (row s .present)
+    (row s .names .each _ (entry s)) (row s .names .each _ (row s .row)))
 
-settle-requires : tie.Need-settle-requires Inv-loop μ-loop
-settle-requires c κs =
-    let t = c .before .before in
-    (t .before .loop .inv .at .present, (t .before .before .before .before .before .pre .1 .0, t .loop-test .taken))
+lowest-requires : tie.Need-lowest-requires Inv-loop μ-loop
+lowest-requires c κs = (omega (arith, c .loop-test .taken), low (c .before))
 
-lay-requires : tie.Need-lay-requires Inv-loop μ-loop
-lay-requires c κs =
-    let t = c .before .before .before .before .before .before .before .before in
-    let g = t .before .loop .inv in
-    let room = row-room _ _ _ _ _ _ (g .at) _ _ (t .loop-test .taken) (g .laid .count) (t .before .before .before .before .before .pre .1 .1 .0) in (
-      omega (arith, room, words-count _ _ (c .before .before .before .before .before .settle .ensures .0)),
-      omega (arith, g .laid .count, g .laid .size, t .before .before .before .before .before .pre .1 .1 .1),
+control-on-requires : tie.Need-control-on-requires Inv-loop μ-loop
+control-on-requires c κs = omega (arith, c .lowest .ensures .line)
+
+control-on-requires-2 : tie.Need-control-on-requires-2 Inv-loop μ-loop
+control-on-requires-2 c κs = omega (arith, c .before .lowest .ensures .line)
+
+with-digit-requires : tie.Need-with-digit-requires Inv-loop μ-loop
+with-digit-requires c κs = (omega (arith, lowest c .lowest .ensures .line), x-is c, few (loop (lowest c)), d-lt c)
+
+sub-start : tie.Need-sub-start Inv-loop μ-loop
+sub-start c = some (lowest (c .before))
+
+cast-gate-for : tie.Need-cast-gate-for Inv-loop μ-loop
+cast-gate-for c = omega (arith, few (loop (lowest (c .before))))
+
+mul-gate-for : tie.Need-mul-gate-for Inv-loop μ-loop
+mul-gate-for c = omega (arith, few (loop (lowest (c .before))))
+
+shared-slice-read-gate-for : tie.Need-shared-slice-read-gate-for Inv-loop μ-loop
+shared-slice-read-gate-for c = let l = loop (lowest (c .before .before)) in omega (arith, present-lt l, row (start l) .names .size)
+
+gate-for-requires : tie.Need-gate-for-requires Inv-loop μ-loop
+gate-for-requires c κs =
+    let d = c .before .before in
+    let l = loop (lowest d) in
+    let s = start l in
+    let own = full-line (n s) (l .loop .a) (row s .present .lines) (k (lowest d)) (on (lowest d)) in (
+      lowest d .lowest .ensures .line,
+      omega (arith, named l, full-lt (n s) (l .loop .a)),
+      omega (arith, ap (digit 4 (k (lowest d))) (named l), own, digit-lt 3 (k (lowest d)) (l .loop .a) three-pos),
+      d-lt d,
     )
 
-add-k : tie.Need-add-k Inv-loop μ-loop
-add-k c = search needs
+word-of-requires : tie.Need-word-of-requires Inv-loop μ-loop
+word-of-requires c κs = search needs
+
+mul-words : tie.Need-mul-words Inv-loop μ-loop
+mul-words c = let d = lowest (c .before .before .before .before) in omega (arith, some d, start (loop d) .pre .1, going (loop d) .laid .count)
+
+slice-write-words : tie.Need-slice-write-words Inv-loop μ-loop
+slice-write-words c = let d = lowest (c .before .before .before .before) in omega (arith, some d, within d)
+
+exchange-requires : tie.Need-exchange-requires Inv-loop μ-loop
+exchange-requires c κs =
+    let d = c .before .before .before .before .before .before in
+    let l = loop (lowest d) in
+    let size = going l .at .present .size in (
+      going l .at .present .pair,
+      (
+        omega (arith, size, present-lt l),
+        omega (arith, size, c .before .before .before .before .before .with-digit .ensures, put-lt 3 (n (start l)) (k (lowest d)) (l .loop .a) (c .before .before .before .before .before .before .before .control-on .result) (present-lt l) (on (lowest d)) (d-lt d)),
+      ),
+    )
+
+with-control-requires : tie.Need-with-control-requires Inv-loop μ-loop
+with-control-requires c κs = let d = c .before .before .before .before .before .before .before .before .before .before .before .before .before in (low (loop d), d .lowest .ensures .line, omega arith)
 
 loop-less : tie.Need-loop-less Inv-loop μ-loop
-loop-less c = search needs
+loop-less c = let d = c .before .before .before .before .before .before .before .before .before .before .before .before .before .before in omega (arith, c .with-control .ensures, put-less (k d) (loop d .loop .left) (d .lowest .ensures .some))
 
 loop-again : tie.Need-loop-again Inv-loop μ-loop
 loop-again c =
-    let t = c .before .before .before .before .before .before .before .before .before .before .before in
-    let g = t .before .loop .inv in
-    let step = c .before .before .before .before .before .before .before .before .settle .ensures in
-    let l = c .before .before .lay in
-    record {
-      within = omega (arith, t .loop-test .taken);
-      at = row-more _ _ _ _ _ _ (g .at) _ _ (step .1);
-      laid =
-          rw (row-found _ _ _ _ _ _ (g .at))
-          (lays-more _ _ _ _ _ _ _ _ (g .laid) (lays-words _ _ _ _ _ _ (step .0) (l .kept .1 .0) (l .ensures .0) (l .ensures .1)));
-    }
+    let d = c .before .before .before .before .before .before .before .before .before .before .before .before in
+    let w = lowest d in
+    let l = loop w in
+    let s = start l in
+    let moved = c .before .before .before .before .before .exchange .ensures in
+    on-lines _ (n s) _ (row s .present .size)
+    (going-turn _ _ _ _ _ _ _ _ _ _ _ _ (going l) (k w) (w .lowest .ensures) (row s .row) _ _ _ _ _ _ (d-is d) (c .before .before .before .before .before .before .before .before .before .before .before .with-digit .ensures) (moved .0) (moved .1)
+    (c .before .before .before .before .before .before .before .before .word-of .ensures ∙ ap recordOf (c .before .before .before .before .before .before .before .before .before .gate-for .ensures (n s) (l .loop .a) (row s .present .lines) (on w) (named l))) (some w) (within w)
+    (c .with-control .ensures))
 
 same-length : tie.Need-same-length Inv-loop μ-loop
-same-length c = same-sizes _ _ _ _ _ (c .before .before .before .before .before .pre .0) (c .before .loop .inv .at .present) .0
+same-length c = let s = c .before .before .before .before .before .before .before .before .before in same-sizes _ _ _ _ _ (row s .present) (going (c .before) .at .present) .0
 
 same-length-2 : tie.Need-same-length-2 Inv-loop μ-loop
-same-length-2 c = same-sizes _ _ _ _ _ (c .before .before .before .before .before .pre .0) (c .before .loop .inv .at .present) .1
+same-length-2 c = let s = c .before .before .before .before .before .before .before .before .before in same-sizes _ _ _ _ _ (row s .present) (going (c .before) .at .present) .1
 
 same-length-3 : tie.Need-same-length-3 Inv-loop μ-loop
-same-length-3 c = c .before .loop .inv .laid .size
+same-length-3 c = going (c .before) .laid .size
 
 returns : tie.Need-returns Inv-loop μ-loop
 returns c =
     let g = c .before .loop .inv in
-    let all : c .before .loop .k ≡ c .before .before .before .before .before .args .n = omega (arith, g .within, c .loop-test .left) in
-    (rw all at (g .laid), rw all at (g .at))
+    (λ n e. going-end _ _ _ _ _ _ _ _ _ _ _ _ (g n e) (c .loop-test .left) .0, λ n e. going-end _ _ _ _ _ _ _ _ _ _ _ _ (g n e) (c .loop-test .left) .1)
 
 pub find-row-spec : {M : Type 1} → statement M
 find-row-spec =
@@ -82,10 +223,28 @@ find-row-spec =
     (tie.spec
     Inv-loop
     μ-loop
+    mul-a
+    slice-read-a
+    cast-from
+    mul-from
+    shared-slice-read-from
+    mul-to
+    shared-slice-read-to
     loop-holds
-    settle-requires
-    lay-requires
-    add-k
+    lowest-requires
+    control-on-requires
+    control-on-requires-2
+    with-digit-requires
+    sub-start
+    cast-gate-for
+    mul-gate-for
+    shared-slice-read-gate-for
+    gate-for-requires
+    word-of-requires
+    mul-words
+    slice-write-words
+    exchange-requires
+    with-control-requires
     loop-less
     loop-again
     same-length
