@@ -7,14 +7,16 @@ use Prim.Native.Nat.{ℕ, _+_, _-_, _*_, _%_, _^_, _≤_, _<_}
 use native.Mathlib.Nat.{add-zero}
 use native.Mathlib.Decide.{ℕ-discrete}
 use native.Mathlib.Omega.{arith}
-use lib.Dec.{eqb, leb}
-use borrow.Author.Tests.{eqb-true, eq-eqb, ne-eqb, leb-true, le-leb, lt-leb}
+use lib.Dec.{eqb, ltb, leb}
+use lib.Bits.{bitOr, or-lt, or-zero-r}
+use borrow.Author.Tests.{eqb-true, eq-eqb, ne-eqb, ltb-true, leb-true, le-leb, lt-leb}
 use Rattle.ranges.specs.Ranges.{every, sum}
 use Rattle.ranges.proofs.Counts.{lt-or-le}
 use Rattle.ranges.proofs.Tests.{every-below, every-of}
-use Rattle.digits.specs.Digits.{digit, put, pack}
-use Rattle.digits.proofs.Digits.{digit-lt, digit-high, put-value}
-use Rattle.digits.proofs.Packs.{digit-pack, pack-lt, pack-ext, pack-add, pack-replaced}
+use Rattle.digits.specs.Digits.{digit, pack}
+use Rattle.digits.proofs.Digits.{digit-lt, digit-high, digits-equal}
+use Rattle.digits.proofs.Bits.{digit-or}
+use Rattle.digits.proofs.Packs.{digit-pack, pack-lt, pack-ext, pack-add}
 use Rattle.digits.proofs.Sizes.{three-pos}
 use Rattle.gates.specs.Gates.{control, holds, firesOn, fires, IsGate}
 use Rattle.gates.specs.Quads.{quad}
@@ -108,6 +110,34 @@ named-lt n a j = go (leb n j) (digit-lt 3 j a three-pos)
     go true lt = omega arith
     go false lt = omega arith
 
+-- both bits of line k
+abbrev both : ℕ → ℕ
+both k = 3 * 2 ^ (2 * k) % 65536
+
+both-lt : (k : ℕ) → k < 6 → both k < 4 ^ 6
+unfolding every
+both-lt k lt = ltb-true (both k) 4096 (every-below (λ k. ltb (both k) 4096) 6 refl k lt)
+
+both-there : (k : ℕ) → k < 6 → digit 4 k (both k) ≡ 3
+unfolding every digit
+both-there k lt = eqb-true (digit 4 k (both k)) 3 (every-below (λ k. eqb (digit 4 k (both k)) 3) 6 refl k lt)
+
+both-else : (k j : ℕ) → k < 6 → j < 6 → (j ≡ k → ⊥) → digit 4 j (both k) ≡ 0
+unfolding every digit
+both-else k j lk lj ne =
+    eqb-true (digit 4 j (both k)) 0
+    (rw (ne-eqb j k ne) at
+    (every-below (λ j. cond (eqb j k) true (eqb (digit 4 j (both k)) 0)) 6
+    (every-below (λ k. every (λ j. cond (eqb j k) true (eqb (digit 4 j (both k)) 0)) 0 6) 6 refl k lk) j lj))
+
+or-three : (x : ℕ) → x < 4 → bitOr x 3 ≡ 3
+unfolding every
+or-three x lt = eqb-true (bitOr x 3) 3 (every-below (λ x. eqb (bitOr x 3) 3) 4 refl x lt)
+
+control-else : (n k a j : ℕ) → (j ≡ k → ⊥) → controlFor n k a j ≡ named n a j
+unfolding controlFor
+control-else n k a j ne = rw (ne-eqb j k ne)
+
 module _ (n a : ℕ) where
   pub full-lt : fullControls n a < 4 ^ 6
   unfolding fullControls
@@ -124,15 +154,17 @@ module _ (n a : ℕ) where
     pub full-line : (j : ℕ) → j < n → digit 4 j (fullControls n a) ≡ digit 3 j a
     full-line j lt = full-digit j (omega arith) ∙ rw (lt-leb n j lt)
 
-    -- those of the gate for line k: the one on line k replaced
-    pub controls-made : (k : ℕ) → k < n → put 4 k (fullControls n a) 3 ≡ pack 4 (controlFor n k a) 6
-    unfolding fullControls controlFor
+    -- those of the gate for line k: both bits of line k are set
+    pub controls-made : (k : ℕ) → k < n → bitOr (fullControls n a) (both k) ≡ pack 4 (controlFor n k a) 6
     controls-made k line =
-        let old = digit-pack 4 (named n a) 6 (λ i l. named-lt n a i) k (omega arith) in
-        omega (arith, rw old at (put-value 4 k (pack 4 (named n a) 6) 3), rw (control-target n k a) at (pack-replaced 4 (controlFor n k a) (named n a) k same 6 (omega arith)))
+        digits-equal 4 6 (bitOr (fullControls n a) (both k)) (pack 4 (controlFor n k a) 6) (omega arith) (or-lt 12 (fullControls n a) (both k) full-lt (both-lt k (omega arith)))
+        (pack-lt 4 (controlFor n k a) 6 (λ j lt. control-lt n k a j))
+        (λ j lt.
+        digit-or 2 j (fullControls n a) (both k) ∙ content j lt (ℕ-discrete j k) ∙ sym (digit-pack 4 (controlFor n k a) 6 (λ i l. control-lt n k a i) j lt))
       where
-        same : (j : ℕ) → (j ≡ k → ⊥) → controlFor n k a j ≡ named n a j
-        same j ne = rw (ne-eqb j k ne)
+        content : (j : ℕ) → j < 6 → Dec (j ≡ k) → bitOr (digit 4 j (fullControls n a)) (digit 4 j (both k)) ≡ controlFor n k a j
+        content j lt (yes e) = rw (e, control-target n k a, both-there k (omega arith)) (or-three (digit 4 k (fullControls n a)) (digit-lt 4 k (fullControls n a) (omega arith)))
+        content j lt (no ne) = rw (both-else k j (omega arith) lt ne, or-zero-r) (full-digit j lt ∙ sym (control-else n k a j ne))
 
 -- two patterns with the same digit on a line
 pub full-same : (n a b j : ℕ) → j < 6 → digit 3 j a ≡ digit 3 j b → digit 4 j (fullControls n a) ≡ digit 4 j (fullControls n b)

@@ -6,7 +6,7 @@ use Prim.Native.Nat.{ℕ, suc, _+_, _-_, _*_, _≤_, _<_}
 use native.Mathlib.Nat.{le-refl, add-zero}
 use native.Mathlib.Numerals.{add-one}
 use native.Mathlib.Omega.{arith}
-use lib.ListN.{length, getD, set, take, drop, length-set, length-map, length-drop, length-append, drop-of-length-le}
+use lib.ListN.{length, getD, set, take, drop, length-set, length-drop, length-append, drop-of-length-le}
 use lib.Seq.{sets, length-take-le, take-all, drop-cons, drop-length, drop-set-lt, getD-set-same}
 use Rattle.ranges.proofs.Stores.{sets-append}
 use Rattle.card.specs.Card.{laid}

@@ -1,18 +1,18 @@
 -- The lines on which two patterns differ: of the controls that name them, put against each other bit by bit, the digits other than 0. The first such line is
 -- computed for all numbers of six digits. Assumes nothing.
 use mathlib.Core.Path.{_≡_, refl, sym, ap, _∙_}
-use mathlib.Core.Bool.{Bool, true, false, cond, _&&_}
-use Prim.Native.Nat.{ℕ, _+_, _*_, _/_, _^_, _≤_, _<_}
+use mathlib.Core.Bool.{Bool, true, cond, _&&_}
+use Prim.Native.Nat.{ℕ, _/_, _^_, _≤_, _<_}
 use native.Mathlib.Nat.{le-refl, mul-le-mul}
 use native.Mathlib.Decide.{ℕ-discrete}
 use native.Mathlib.Omega.{arith}
-use lib.Bits.{bitAnd, bitXor, and-le-l, and-le-r, xor-add-and, xor-self, xor-lt}
+use lib.Bits.{bitXor, and-le-l, and-le-r, xor-add-and, xor-self, xor-lt}
 use lib.Count.{trailingZeros}
 use lib.Dec.{eqb, ltb}
 use borrow.Author.Tests.{eqb-true, ne-eqb, ltb-true}
 use Rattle.ranges.specs.Ranges.{every}
 use Rattle.ranges.proofs.Bools.{and-left, and-right}
-use Rattle.ranges.proofs.Tests.{every-at, every-below}
+use Rattle.ranges.proofs.Tests.{every-below}
 use Rattle.digits.specs.Digits.{digit, put}
 use Rattle.digits.proofs.Digits.{digit-lt, digit-put-same, digit-put-other, put-value, put-lt, digits-equal}
 use Rattle.digits.proofs.Bits.{digit-xor}

@@ -11,7 +11,7 @@ use lib.ListN.{length, getD, length-map, length-append}
 use lib.Seq.{ext-getD}
 use Rattle.ranges.proofs.Lists.{map-at}
 use Rattle.digits.specs.Digits.{digit, put}
-use Rattle.digits.proofs.Digits.{digit-lt, put-lt}
+use Rattle.digits.proofs.Digits.{digit-lt}
 use Rattle.digits.proofs.Sizes.{three-pos}
 use Rattle.gates.specs.declared.Gate.{Gate}
 use Rattle.gates.specs.Gates.{applied}
@@ -28,14 +28,11 @@ use Rattle.synthesis.proofs.Pairings.{present-permutation}
 
 -- a is the entry of row i, and d the digit of i on line k
 module _ (n i k a d : ℕ) (t v : List ℕ) (w : Present n t v) (below : i < 3 ^ n) (line : k < n) (ea : a ≡ getD t i 0) (ed : d ≡ digit 3 k i) where
-  pub entry-lt : a < 3 ^ n
+  entry-lt : a < 3 ^ n
   entry-lt = rw ea (present-permutation n t v w .within i below)
 
-  pub value-lt : d < 3
+  value-lt : d < 3
   value-lt = rw ed (digit-lt 3 k i three-pos)
-
-  pub changed-lt : put 3 k a d < 3 ^ n
-  changed-lt = put-lt 3 n k a d entry-lt line value-lt
 
   module _ (ne : digit 3 k a ≡ d → ⊥) where
     exchanges : map (applied (gateFor n k a d)) t ≡ map (exchanged a (put 3 k a d)) t

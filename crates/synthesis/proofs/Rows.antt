@@ -1,7 +1,7 @@
 -- A row as the code goes through it, a turn for each gate: `Going` is its invariant, and a turn takes it to the line after the one on which a gate was added
 -- (`going-turn`). Assumes nothing.
 use mathlib.Core.Path.{_≡_, refl, sym, ap, subst, _∙_}
-use mathlib.Core.Logic.{_⊎_, ⊎-elim}
+use mathlib.Core.Logic.{⊎-elim}
 use mathlib.Core.List.{List, [], _∷_, map}
 use Prim.Native.Nat.{ℕ, suc, _+_, _-_, _^_, _≤_, _<_}
 use native.Mathlib.Nat.{le-refl, pow-le-pow-right, pow-suc}

@@ -43,6 +43,6 @@ pub fn gate_for(k: usize, controls: u16, d: u16) -> Gate
     Gate {
         operator: exchanger_of(gates::controls::control_on(controls, k), d),
         target: k as u8,
-        controls: gates::controls::with_control(controls, k, 3),
+        controls: controls | (3 << (2 * k)),
     }
 }

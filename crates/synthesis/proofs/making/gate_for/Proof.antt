@@ -1,9 +1,7 @@
--- `synthesis::making::gate_for` meets its contract: the operator exchanges the two digits, and the control on the target is replaced. Assumes nothing.
-use mathlib.Core.Path.{_≡_, ap, _∙_}
-use Prim.Native.Nat.{ℕ, _≤_, _<_}
+-- `synthesis::making::gate_for` meets its contract: the operator exchanges the two digits, and the target has no control. Assumes nothing.
+use mathlib.Core.Path.{ap, _∙_}
 use Rattle.digits.specs.Digits.{digit}
 use Rattle.synthesis.specs.Synthesis.{gateFor}
-use Rattle.synthesis.specs.Steps.{fullControls}
 use Rattle.synthesis.proofs.Controls.{full-line, controls-made}
 use borrow.Author.Needs.{needs}
 use Rattle.synthesis.proofs.making.gate_for.Statement.{statement}
@@ -18,18 +16,24 @@ exchanger-of-requires c κs = search needs
 cast-t6 : tie.Need-cast-t6
 cast-t6 c = search needs
 
-with-control-requires : tie.Need-with-control-requires
-with-control-requires c κs = search needs
+mul-t7 : tie.Need-mul-t7
+mul-t7 c = search needs
+
+cast-t8 : tie.Need-cast-t8
+cast-t8 c = search needs
+
+shl-t9 : tie.Need-shl-t9
+shl-t9 c = search needs
 
 returns : tie.Need-returns
 unfolding gateFor
 returns c =
     λ n a lines line e.
-    let k = c .before .before .before .args .k in
-    let x = c .before .before .control-on .ensures ∙ ap (digit 4 k) e ∙ full-line n a lines k line in
-    rw (c .before .exchanger-of .ensures, x, c .with-control .ensures, e, controls-made n a lines k line)
+    let k = c .before .before .args .k in
+    let x = c .before .control-on .ensures ∙ ap (digit 4 k) e ∙ full-line n a lines k line in
+    rw (c .exchanger-of .ensures, x, e, controls-made n a lines k line)
 
 pub gate-for-spec : {M : Type 1} → statement M
 gate-for-spec =
     tie.close
-    (tie.spec control-on-requires exchanger-of-requires cast-t6 with-control-requires returns)
+    (tie.spec control-on-requires exchanger-of-requires cast-t6 mul-t7 cast-t8 shl-t9 returns)

@@ -1,8 +1,7 @@
 -- `synthesis::making::name_patterns` meets its contract: the controls so far are those that name the patterns. Assumes nothing.
 use denote.Ref.{now}
-use mathlib.Core.Path.{_≡_, ap, _∙_}
-use Prim.Native.Nat.{ℕ, _+_, _-_, _*_, _%_, _^_, _<_}
-use lib.ListN.{length}
+use mathlib.Core.Path.{_≡_}
+use Prim.Native.Nat.{_+_, _-_, _*_, _%_, _^_, _<_}
 use native.Mathlib.Omega.{arith}
 use Rattle.ranges.proofs.Changes.{filled-at}
 use Rattle.ranges.proofs.Fills.{filled, Filling, filling-start, filling-length, filling-next}

@@ -11,7 +11,6 @@ use Rattle.synthesis.specs.Steps.{rowsFrom, Reached, Lays}
 use Rattle.synthesis.proofs.Pairings.{same-sizes}
 use Rattle.synthesis.proofs.Moves.{still, rows-none, rows-found, rows-room, rows-more, rows-all}
 use Rattle.synthesis.proofs.Layings.{lays-none, lays-more}
-use borrow.Author.Needs.{needs}
 use Rattle.synthesis.proofs.passes.find_rows.Statement.{statement}
 use Rattle.synthesis.proofs.passes.find_rows.Tie as tie
 

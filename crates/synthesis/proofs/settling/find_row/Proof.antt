@@ -1,20 +1,18 @@
 -- `synthesis::settling::find_row` meets its contract: each turn adds the gate of the next line that differs, and where none is left the row is done.
 -- Assumes nothing.
 use denote.Ref.{now}
-use mathlib.Core.Path.{_≡_, refl, sym, ap, _∙_}
-use mathlib.Core.List.{List}
-use Prim.Native.Nat.{ℕ, _-_, _^_, _≤_, _<_}
-use lib.ListN.{length, getD, length-set}
+use mathlib.Core.Path.{_≡_, ap, _∙_}
+use Prim.Native.Nat.{ℕ, _^_, _≤_, _<_}
+use lib.ListN.{length, getD}
 use native.Mathlib.Omega.{arith}
-use Rattle.digits.specs.Digits.{digit, put}
+use Rattle.digits.specs.Digits.{digit}
 use Rattle.digits.proofs.Digits.{digit-lt, put-lt}
 use Rattle.digits.proofs.Sizes.{three-pos, patterns-most}
 use Rattle.gates.specs.Records.{recordOf}
-use Rattle.synthesis.specs.Steps.{rowFrom, fullControls, Reached, Lowest, Row, Lays}
+use Rattle.synthesis.specs.Steps.{fullControls, Row}
 use Rattle.synthesis.proofs.Controls.{full-lt, full-line}
 use Rattle.synthesis.proofs.Lines.{differing-lt, put-less}
 use Rattle.synthesis.proofs.Pairings.{present-permutation, same-sizes}
-use Rattle.synthesis.proofs.Moves.{entry-lt, changed-lt}
 use Rattle.synthesis.proofs.Rows.{Going, going-start, going-end, entry-below, line, digit-came, some-room, going-turn, on-lines}
 use borrow.Author.Needs.{needs}
 use Rattle.synthesis.proofs.settling.find_row.Statement.{statement}
