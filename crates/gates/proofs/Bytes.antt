@@ -5,7 +5,7 @@ use mathlib.Core.Bool.{Bool, true, false, cond, not, _&&_, _||_, and-false}
 use mathlib.Core.List.{List, [], _∷_}
 use mathlib.Core.Logic.{_⊎_}
 use Prim.Native.Nat.{ℕ, zero, suc, _+_, _-_, _*_, _/_, _%_, _^_, _≤_, _<_}
-use native.Mathlib.Nat.{add-zero, zero-add, add-assoc, lt-of-le-of-lt}
+use native.Mathlib.Nat.{div-one, add-zero, zero-add, add-assoc, lt-of-le-of-lt}
 use native.Mathlib.Omega.{arith}
 use lib.Dec.{eqb, leb, ltb}
 use lib.ListN.{length, getD, take, drop}
@@ -249,6 +249,25 @@ module _ (b : List ℕ) (at w : ℕ) (read : Word b at w) where
   word-decoded n six fits = rw (six, word-is n fits, word-gate)
 
 -- ---- its control bytes packed
+
+-- three packed controls, a byte each: times 4161
+pub three-spread : (x : ℕ) → x < 64 → bitAnd (x * 4161) 197379 ≡ x % 4 + 256 * (x / 4 % 4) + 65536 * (x / 16 % 4)
+unfolding every
+three-spread x lt = eqb-true _ _ (every-below (λ x. eqb (bitAnd (x * 4161) 197379) (x % 4 + 256 * (x / 4 % 4) + 65536 * (x / 16 % 4))) 64 refl x lt)
+
+three-low : (q r s : ℕ) → q ≡ r + 64 * s → (r % 4 ≡ q % 4) × (r / 4 % 4 ≡ q / 4 % 4) × (r / 16 % 4 ≡ q / 16 % 4)
+three-low q r s e = (omega arith, omega arith, omega arith)
+
+pub word-spread : (o t c low high : ℕ) → low ≡ c % 64 % 4 + 256 * (c % 64 / 4 % 4) + 65536 * (c % 64 / 16 % 4)
+    → high ≡ c / 64 % 64 % 4 + 256 * (c / 64 % 64 / 4 % 4) + 65536 * (c / 64 % 64 / 16 % 4)
+    → o + 256 * (t + 256 * (low + 16777216 * high))
+    ≡ o + 256 * (t + 256 * (c / 1 % 4 + 256 * (c / 4 % 4 + 256 * (c / 16 % 4 + 256 * (c / 64 % 4 + 256 * (c / 256 % 4 + 256 * (c / 1024 % 4)))))))
+word-spread o t c low high el eh =
+    let first = three-low c (c % 64) (c / 64) (omega arith) in
+    let second = three-low (c / 64) (c / 64 % 64) (c / 64 / 64) (omega arith) in
+    let q4 : c / 64 / 4 ≡ c / 256 = omega arith in
+    let q16 : c / 64 / 16 ≡ c / 1024 = omega arith in
+    rw (el, eh, first .0, first .1, first .2, second .0, second .1, second .2, q4, q16, div-one) (omega arith)
 
 -- three of them, times 4161
 three-packed : (a b c x : ℕ) → a < 4 → b < 4 → c < 4 → x ≡ a + 256 * b + 65536 * c → 4161 * x / 4096 % 64 ≡ a + 4 * b + 16 * c

@@ -1,7 +1,7 @@
 // A record as one number of 64 bits, its first byte lowest: all bytes are looked at at once.
 ghost use mathlib.Core.Path.{_≡_};
 ghost use mathlib.Core.Bool.{true};
-ghost use Prim.Native.Nat.{ℕ, _+_, _*_, _/_, _≤_, _<_, _^_};
+ghost use Prim.Native.Nat.{ℕ, _+_, _*_, _/_, _%_, _≤_, _<_, _^_};
 ghost use lib.ListN.{length, getD};
 ghost use lib.Seq.{sets};
 ghost use Rattle.digits.specs.Digits.{pack};
@@ -131,14 +131,22 @@ pub fn mark_controls(w: u64) -> u64
     mark_others(w, 0x030303030303)
 }
 
+// Three packed controls, a byte each: 4161 is 4096 and 64 and 1, so that in the product each stands where its byte begins.
+fn three_bytes(x: u64) -> u64
+    requires { ⌜ x < 64 ⌝ }
+    ensures { λ r. ⌜ (r ≡ x % 4 + 256 * (x / 4 % 4) + 65536 * (x / 16 % 4)) × (r ≤ 197379) ⌝ }
+{
+    x * 4161 & 0x030303
+}
+
 // The word of a gate: its controls, packed in base 4, are spread over bytes.
 pub fn word_of(g: Gate) -> u64
     ensures { λ r. ⌜ bytesIn r ≡ recordOf g ⌝ }
 {
     let c = g.controls as u64;
-    let high = c / 64 % 4 + 256 * (c / 256 % 4 + 256 * (c / 1024 % 4));
-    let controls = c % 4 + 256 * (c / 4 % 4 + 256 * (c / 16 % 4 + 256 * high));
-    g.operator as u64 + 256 * (g.target as u64 + 256 * controls)
+    let low = three_bytes(c % 64);
+    let high = three_bytes(c / 64 % 64);
+    g.operator as u64 + 256 * (g.target as u64 + 256 * (low + 0x01000000 * high))
 }
 
 // The word with another operator byte: that of the operator's inverse. C1 and C2 are 1 and 2, and 3 turns each into the other; of the five operators they
