@@ -7,7 +7,7 @@ use Prim.Native.Nat.{ℕ, suc, _+_, _-_, _^_, _≤_, _<_}
 use native.Mathlib.Nat.{le-refl, pow-le-pow-right, pow-suc}
 use native.Mathlib.Decide.{ℕ-discrete}
 use native.Mathlib.Omega.{arith}
-use lib.Bits.{bitXor}
+use lib.Bits.{bitAnd, bitXor}
 use lib.ListN.{length, getD, set}
 use Rattle.ranges.proofs.Counts.{lt-or-le}
 use Rattle.ranges.proofs.Lists.{map-at}
@@ -24,7 +24,7 @@ use Rattle.procedure.proofs.Swaps.{at-one}
 use Rattle.synthesis.specs.Synthesis.{gateFor}
 use Rattle.synthesis.specs.Steps.{stepFrom, rowFrom, Paired, Present, Reached, fullControls, Lowest, Lays}
 use Rattle.synthesis.proofs.Controls.{full-line}
-use Rattle.synthesis.proofs.Lines.{differing, differing-past, differing-same, same-digits, differing-less}
+use Rattle.synthesis.proofs.Lines.{ones, differing, differing-past, differing-same, same-digits, differing-less, without-first}
 use Rattle.synthesis.proofs.Pairings.{present-permutation}
 use Rattle.synthesis.proofs.Layings.{lays-none, lays-word, lays-more}
 use Rattle.synthesis.proofs.Moves.{still, exchanged-there, step-gate, row-none, row-skip, row-found, row-more, row-room}
@@ -41,7 +41,7 @@ pub record Going (n i from : ℕ) (t₀ ws₀ : List ℕ) (end : ℕ) (t v ws : 
   pub lines : left ≡ differing n a i
 
 pub going-start : (n i from to : ℕ) (t v ws : List ℕ) (e : ℕ) → Present n t v → from ≡ fullControls n (getD t i 0) → to ≡ fullControls n i
-    → Going n i from t ws e t v ws (getD t i 0) (bitXor from to) e
+    → Going n i from t ws e t v ws (getD t i 0) (ones (bitXor from to)) e
 going-start n i from to t v ws e w ef et =
     let none = row-none n i t in
     record {
@@ -94,7 +94,7 @@ module _ (n i from : ℕ) (t₀ ws₀ : List ℕ) (end : ℕ) (t v ws : List ℕ
     some-room fits = omega (arith, ap (λ (z : State Gate). length (z .found)) step, row-room n i k t₀ t v at-line e end line (laid-line .count) fits)
 
     pub going-turn : (d b word left′ : ℕ) (t′ v′ : List ℕ) → d ≡ digit 3 k i → b ≡ put 3 k a d → t′ ≡ map (exchanged a b) t → Paired t′ v′
-        → bytesIn word ≡ recordOf (gateFor n k a d) → 1 ≤ e → e ≤ length ws → left′ ≡ put 4 k left 0
+        → bytesIn word ≡ recordOf (gateFor n k a d) → 1 ≤ e → e ≤ length ws → left′ ≡ bitAnd left (left - 1)
         → Going n i from t₀ ws₀ end t′ v′ (set ws (e - 1) word) b left′ (e - 1)
     going-turn d b word left′ t′ v′ ed eb et pair is some le el =
         let b-is : b ≡ put 3 k a (digit 3 k i) = eb ∙ ap (put 3 k a) ed in
@@ -110,7 +110,7 @@ module _ (n i from : ℕ) (t₀ ws₀ : List ℕ) (end : ℕ) (t v ws : List ℕ
               sym (ap (λ (x : List ℕ). getD x i 0) et ∙ map-at (exchanged a b) t i 0 0 (omega (arith, g .at .present .size)) ∙ rw (← g .entry) (at-one a b));
           done = λ j lt. rw b-is (below-next j (omega arith) (ℕ-discrete j k));
           ahead = λ j lo lt. rw b-is (digit-put-other 3 j k a (digit 3 k i) (digit-lt 3 k i three-pos) (λ q. omega arith) ∙ g .ahead j (omega (arith, from-here)) lt);
-          lines = el ∙ rw (g .lines, b-is) (differing-less n a i k (w .line));
+          lines = el ∙ rw (g .lines, b-is) (without-first n a i k (rw (g .lines) at w) ∙ differing-less n a i k (w .line));
         }
       where
         below-next : (j : ℕ) → j ≤ k → Dec (j ≡ k) → digit 3 j (put 3 k a (digit 3 k i)) ≡ digit 3 j i

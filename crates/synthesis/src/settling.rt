@@ -31,7 +31,7 @@ fn lowest(left: u16) -> usize
 }
 
 // Row i: the words of its gates, laid before a place. Says where the words begin now.
-// A turn for each gate: `left` has two bits for each line on which the present entry a and i differ, and on these a is as it came.
+// A turn for each gate: `left` has a bit for each line on which the present entry a and i differ, the lower of its two, and on these a is as it came.
 pub fn find_row(
     i: usize,
     full: &[u16],
@@ -48,7 +48,8 @@ pub fn find_row(
     let mut a = table[i];
     let from = full[a as usize];
     let to = full[i];
-    let mut left = from ^ to;
+    let differ = from ^ to;
+    let mut left = (differ | (differ >> 1)) & 0x555;
     let mut start = end;
     while left != 0 {
         let k = lowest(left);
@@ -58,7 +59,7 @@ pub fn find_row(
         words[start] = gates::words::word_of(crate::making::gate_for(k, full[a as usize], d));
         exchange(table, inverse, a, b);
         a = b;
-        left = gates::controls::with_control(left, k, 0);
+        left &= left - 1;
     }
     start
 }

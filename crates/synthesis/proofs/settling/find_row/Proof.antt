@@ -1,8 +1,9 @@
 -- `synthesis::settling::find_row` meets its contract: each turn adds the gate of the next line that differs, and where none is left the row is done.
 -- Assumes nothing.
 use denote.Ref.{now}
-use mathlib.Core.Path.{_≡_, ap, _∙_}
-use Prim.Native.Nat.{ℕ, _^_, _≤_, _<_}
+use mathlib.Core.Path.{_≡_, refl, ap, _∙_}
+use Prim.Native.Nat.{ℕ, _-_, _^_, _≤_, _<_}
+use lib.Bits.{and-le-r}
 use lib.ListN.{length, getD}
 use native.Mathlib.Omega.{arith}
 use Rattle.digits.specs.Digits.{digit}
@@ -11,7 +12,7 @@ use Rattle.digits.proofs.Sizes.{three-pos, patterns-most}
 use Rattle.gates.specs.Records.{recordOf}
 use Rattle.synthesis.specs.Steps.{fullControls, Row}
 use Rattle.synthesis.proofs.Controls.{full-lt, full-line}
-use Rattle.synthesis.proofs.Lines.{differing-lt, put-less}
+use Rattle.synthesis.proofs.Lines.{differing-lt}
 use Rattle.synthesis.proofs.Pairings.{present-permutation, same-sizes}
 use Rattle.synthesis.proofs.Rows.{Going, going-start, going-end, entry-below, line, digit-came, some-room, going-turn, on-lines}
 use borrow.Author.Needs.{needs}
@@ -19,11 +20,11 @@ use Rattle.synthesis.proofs.settling.find_row.Statement.{statement}
 use Rattle.synthesis.proofs.settling.find_row.Tie as tie
 
 abbrev Inv-loop : tie.InvT-loop
-Inv-loop i full table₀ inverse₀ words₀ end a₀ from to left₀ start₀ table inverse words a left start =
+Inv-loop i full table₀ inverse₀ words₀ end a₀ from to differ left₀ start₀ table inverse words a left start =
     (n : ℕ) → length table₀ ≡ 3 ^ n → Going n i from table₀ words₀ end table inverse words a left start
 
 abbrev μ-loop : tie.MeasureT-loop
-μ-loop i full table₀ inverse₀ words₀ end a₀ from to left₀ start₀ table inverse words a left start = left
+μ-loop i full table₀ inverse₀ words₀ end a₀ from to differ left₀ start₀ table inverse words a left start = left
 
 -- the row as it comes
 module _ (s : tie.Start Inv-loop μ-loop) where
@@ -183,23 +184,23 @@ exchange-requires c κs =
       ),
     )
 
-with-control-requires : tie.Need-with-control-requires Inv-loop μ-loop
-with-control-requires c κs = let d = c .before .before .before .before .before .before .before .before .before .before .before .before .before in (low (loop d), d .lowest .ensures .line, omega arith)
+sub-left : tie.Need-sub-left Inv-loop μ-loop
+sub-left c = omega (arith, c .before .before .before .before .before .before .before .before .before .before .before .before .before .before .loop-test .taken)
 
 loop-less : tie.Need-loop-less Inv-loop μ-loop
-loop-less c = let d = c .before .before .before .before .before .before .before .before .before .before .before .before .before .before in omega (arith, c .with-control .ensures, put-less (k d) (loop d .loop .left) (d .lowest .ensures .some))
+loop-less c = let left = c .before .before .before .before .before .before .before .before .before .before .before .before .before .before .before .loop .left in omega (arith, c .before .before .before .before .before .before .before .before .before .before .before .before .before .before .loop-test .taken, and-le-r left (left - 1))
 
 loop-again : tie.Need-loop-again Inv-loop μ-loop
 loop-again c =
-    let d = c .before .before .before .before .before .before .before .before .before .before .before .before in
+    let d = c .before .before .before .before .before .before .before .before .before .before .before in
     let w = lowest d in
     let l = loop w in
     let s = start l in
-    let moved = c .before .before .before .before .before .exchange .ensures in
+    let moved = c .before .before .before .before .exchange .ensures in
     on-lines _ (n s) _ (row s .present .size)
-    (going-turn _ _ _ _ _ _ _ _ _ _ _ _ (going l) (k w) (w .lowest .ensures) (row s .row) _ _ _ _ _ _ (d-is d) (c .before .before .before .before .before .before .before .before .before .before .before .with-digit .ensures) (moved .0) (moved .1)
-    (c .before .before .before .before .before .before .before .before .word-of .ensures ∙ ap recordOf (c .before .before .before .before .before .before .before .before .before .gate-for .ensures (n s) (l .loop .a) (row s .present .lines) (on w) (named l))) (some w) (within w)
-    (c .with-control .ensures))
+    (going-turn _ _ _ _ _ _ _ _ _ _ _ _ (going l) (k w) (w .lowest .ensures) (row s .row) _ _ _ _ _ _ (d-is d) (c .before .before .before .before .before .before .before .before .before .before .with-digit .ensures) (moved .0) (moved .1)
+    (c .before .before .before .before .before .before .before .word-of .ensures ∙ ap recordOf (c .before .before .before .before .before .before .before .before .gate-for .ensures (n s) (l .loop .a) (row s .present .lines) (on w) (named l))) (some w) (within w)
+    refl)
 
 same-length : tie.Need-same-length Inv-loop μ-loop
 same-length c = let s = c .before .before .before .before .before .before .before .before .before in same-sizes _ _ _ _ _ (row s .present) (going (c .before) .at .present) .0
@@ -242,7 +243,7 @@ find-row-spec =
     mul-words
     slice-write-words
     exchange-requires
-    with-control-requires
+    sub-left
     loop-less
     loop-again
     same-length
