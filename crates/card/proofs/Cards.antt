@@ -20,6 +20,10 @@ pub lines-good : (n : ℕ) → 1 ≤ n → n ≤ 6 → linesOk n ≡ true
 unfolding linesOk
 lines-good n a b = rw (le-leb 1 n a, le-leb n 6 b)
 
+-- no answer is both a refusal and an acceptance
+pub not-accepted : {A : Type 0} (k p : ℕ) (vs : List ℕ) → refused k p ≡ accepted vs → A
+not-accepted k p vs e = let z : _≡_ {A = ℕ} 0 1 = cc in absurd (omega arith)
+
 -- a refusal is given, or passed over
 pub refusing-yes : (bad : Bool) (k p : ℕ) (x : Answer) → bad ≡ true → refusing bad k p x ≡ refused k p
 unfolding refusing

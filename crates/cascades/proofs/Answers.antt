@@ -1,4 +1,5 @@
--- The answers of the calls on a cascade: what 1, 6 and 7 say of the bytes, and that they do not depend on the answer behind them. Assumes nothing.
+-- 1, 6 and 7 of bytes that should be records, whatever a good record is: what they say of the bytes, and that they do not depend on the answer behind them.
+-- Assumes nothing.
 use mathlib.Core.Path.{_≡_, refl, sym, _∙_}
 use mathlib.Core.Bool.{Bool, true, false, cond, not}
 use mathlib.Core.List.{List, [], _∷_}
@@ -12,10 +13,10 @@ use Rattle.ranges.specs.Ranges.{first}
 use Rattle.ranges.proofs.Bools.{and-left, and-right, clash}
 use Rattle.ranges.proofs.Searches.{Found, found, first-more, first-hit, first-ends}
 use Rattle.card.specs.Card.{Answer, Answer.accepted, Answer.refused, refusing, linesOk, onLines}
-use Rattle.card.proofs.Cards.{good-lines}
-use Rattle.gates.specs.Records.{isRecord}
-use Rattle.cascades.specs.Cascades.{records, Whole}
-use Rattle.cascades.specs.Answers.{lengthOk, badRecord, firstBad, sound, checkAnswer}
+use Rattle.card.proofs.Cards.{good-lines, not-accepted}
+use Rattle.cascades.specs.Cascades.{records}
+use Rattle.cascades.specs.Inner.Checked.{WholeOf}
+use Rattle.cascades.specs.Answers.{lengthOk, badRecord, firstBad, onRecords}
 
 pub length-is : (l : ℕ) → lengthOk l ≡ true → (l % 8 ≡ 0) × (l ≤ 64000)
 unfolding lengthOk
@@ -23,112 +24,107 @@ length-is l e = (eqb-true (l % 8) 0 (and-left (eqb (l % 8) 0) _ e), leb-true l (
 
 -- ---- the search for a record that is no gate
 
-module _ (n : ℕ) (b : List ℕ) where
-  bad-not : (i : ℕ) → isRecord n b (8 * i) ≡ true → badRecord n b i ≡ false
+-- a loop over m records has come to record i, and met good ones only
+pub record Passing (good : ℕ → List ℕ → ℕ → Bool) (n : ℕ) (b : List ℕ) (m i : ℕ) : Type 0 where
+  pub within : i ≤ m
+  pub none : first (badRecord good n b) i (m - i) ≡ first (badRecord good n b) 0 m
+
+module _ (good : ℕ → List ℕ → ℕ → Bool) (n : ℕ) (b : List ℕ) where
+  bad-not : (i : ℕ) → good n b (8 * i) ≡ true → badRecord good n b i ≡ false
   unfolding badRecord
   bad-not i e = rw e
 
-  bad-is : (i : ℕ) → isRecord n b (8 * i) ≡ false → badRecord n b i ≡ true
+  bad-is : (i : ℕ) → good n b (8 * i) ≡ false → badRecord good n b i ≡ true
   unfolding badRecord
   bad-is i e = rw e
 
-  good-is : (i : ℕ) → badRecord n b i ≡ false → isRecord n b (8 * i) ≡ true
+  good-is : (i : ℕ) → badRecord good n b i ≡ false → good n b (8 * i) ≡ true
   unfolding badRecord
-  good-is i e = not-false (isRecord n b (8 * i)) e
+  good-is i e = not-false (good n b (8 * i)) e
 
-  -- a loop over m records has come to record i, and met gates only
-  pub record Passing (m i : ℕ) : Type 0 where
-    pub within : i ≤ m
-    pub none : first (badRecord n b) i (m - i) ≡ first (badRecord n b) 0 m
-
-  pub passing-start : (m : ℕ) → Passing m 0
+  pub passing-start : (m : ℕ) → Passing good n b m 0
   passing-start m = record { within = omega arith; none = rw sub-zero }
 
-  pub passing-next : (m i : ℕ) → i < m → isRecord n b (8 * i) ≡ true → Passing m i → Passing m (i + 1)
-  passing-next m i lt e s = record { within = omega arith; none = first-more (badRecord n b) m i lt (bad-not i e) ∙ s .none }
+  pub passing-next : (m i : ℕ) → i < m → good n b (8 * i) ≡ true → Passing good n b m i → Passing good n b m (i + 1)
+  passing-next m i lt e s = record { within = omega arith; none = first-more (badRecord good n b) m i lt (bad-not i e) ∙ s .none }
 
   -- ---- 1, 6 and 7, and else x
 
   module _ (x : Answer) where
-    pub sound-length : lengthOk (length b) ≡ false → sound n b x ≡ refused 6 0
-    unfolding sound refusing
-    sound-length e = rw e
+    pub on-records-length : lengthOk (length b) ≡ false → onRecords good n b x ≡ refused 6 0
+    unfolding onRecords refusing
+    on-records-length e = rw e
 
-    pub sound-at : (i : ℕ) → lengthOk (length b) ≡ true → firstBad n b ≡ i → i < records b → sound n b x ≡ refused 7 i
-    unfolding sound refusing
-    sound-at i e f lt = rw (e, f, lt-ltb i (records b) lt)
+    pub on-records-at : (i : ℕ) → lengthOk (length b) ≡ true → firstBad good n b ≡ i → i < records b → onRecords good n b x ≡ refused 7 i
+    unfolding onRecords refusing
+    on-records-at i e f lt = rw (e, f, lt-ltb i (records b) lt)
 
-    pub sound-none : lengthOk (length b) ≡ true → records b ≤ firstBad n b → sound n b x ≡ x
-    unfolding sound refusing
-    sound-none e le = rw (e, le-ltb (firstBad n b) (records b) le)
+    pub on-records-none : lengthOk (length b) ≡ true → records b ≤ firstBad good n b → onRecords good n b x ≡ x
+    unfolding onRecords refusing
+    on-records-none e le = rw (e, le-ltb (firstBad good n b) (records b) le)
 
     -- the loop meets a record that is no gate
-    pub sound-bad : (i : ℕ) → lengthOk (length b) ≡ true → i < records b → isRecord n b (8 * i) ≡ false → Passing (records b) i → sound n b x ≡ refused 7 i
+    pub on-records-bad : (i : ℕ) → lengthOk (length b) ≡ true → i < records b → good n b (8 * i) ≡ false → Passing good n b (records b) i → onRecords good n b x ≡ refused 7 i
     unfolding firstBad
-    sound-bad i e lt r s = sound-at i e (sym (s .none) ∙ first-hit (badRecord n b) (records b) i lt (bad-is i r)) lt
+    on-records-bad i e lt r s = on-records-at i e (sym (s .none) ∙ first-hit (badRecord good n b) (records b) i lt (bad-is i r)) lt
 
     -- it meets none
-    pub sound-good : (i : ℕ) → lengthOk (length b) ≡ true → records b ≤ i → Passing (records b) i → sound n b x ≡ x
+    pub on-records-good : (i : ℕ) → lengthOk (length b) ≡ true → records b ≤ i → Passing good n b (records b) i → onRecords good n b x ≡ x
     unfolding firstBad
-    sound-good i e le s = sound-none e (omega (arith, sym (s .none) ∙ first-ends (badRecord n b) (records b) i le, s .within))
+    on-records-good i e le s = on-records-none e (omega (arith, sym (s .none) ∙ first-ends (badRecord good n b) (records b) i le, s .within))
 
     -- bytes that are records, each a gate, are let through to x
-    pub passed : (m : ℕ) → Whole n b m → onLines n (sound n b x) ≡ x
+    pub records-passed : (m : ℕ) → WholeOf good n b m → onLines n (onRecords good n b x) ≡ x
     unfolding lengthOk firstBad
-    passed m w =
+    records-passed m w =
         let whole : length b % 8 ≡ 0 = omega (arith, w .size) in
         let small : length b ≤ 8 * 8000 = omega (arith, w .size, w .most) in
         let count : records b ≡ m = omega (arith, w .size) in
-        good-lines n (sound n b x) (w .lines)
-        ∙ (sound-none (rw (eq-eqb (length b % 8) 0 whole, le-leb (length b) (8 * 8000) small))
-        (never (first (badRecord n b) 0 (records b)) (ltb (first (badRecord n b) 0 (records b)) (records b)) refl (found (badRecord n b) 0 (records b)) (λ i lt. bad-not i (w .each i (omega arith)))))
+        good-lines n (onRecords good n b x) (w .lines)
+        ∙ (on-records-none (rw (eq-eqb (length b % 8) 0 whole, le-leb (length b) (8 * 8000) small))
+        (never (first (badRecord good n b) 0 (records b)) (ltb (first (badRecord good n b) 0 (records b)) (records b)) refl (found (badRecord good n b) 0 (records b)) (λ i lt. bad-not i (w .each i (omega arith)))))
       where
-        never : (r : ℕ) (t : Bool) → ltb r (records b) ≡ t → Found (badRecord n b) 0 (0 + records b) r → ((i : ℕ) → i < records b → badRecord n b i ≡ false) → records b ≤ r
-        never r true e f h = clash (badRecord n b r) (f .hit (omega (arith, ltb-true r (records b) e))) (h r (ltb-true r (records b) e))
+        never : (r : ℕ) (t : Bool) → ltb r (records b) ≡ t → Found (badRecord good n b) 0 (0 + records b) r → ((i : ℕ) → i < records b → badRecord good n b i ≡ false) → records b ≤ r
+        never r true e f h = clash (badRecord good n b r) (f .hit (omega (arith, ltb-true r (records b) e))) (h r (ltb-true r (records b) e))
         never r false e f h = ltb-false r (records b) e
 
-  -- ---- what the answer of checking says
+  -- ---- what an answer behind 1, 6 and 7 says, whatever it accepts with
 
-  refused-not : {A : Type 0} (k p : ℕ) (vs : List ℕ) → refused k p ≡ accepted vs → A
-  refused-not k p vs e = let z : _≡_ {A = ℕ} 0 1 = cc in absurd (omega arith)
+  module _ (us : List ℕ) where
+    -- accepted: the bytes are records, each a good one
+    pub behind-whole : (vs : List ℕ) → onLines n (onRecords good n b (accepted us)) ≡ accepted vs → WholeOf good n b (records b)
+    unfolding onLines onRecords refusing
+    behind-whole vs = go (linesOk n) (lengthOk (length b)) (ltb (firstBad good n b) (records b)) refl refl refl
+      where
+        go : (x y z : Bool) → linesOk n ≡ x → lengthOk (length b) ≡ y → ltb (firstBad good n b) (records b) ≡ z
+            → cond (not x) (refused 1 0) (cond (not y) (refused 6 0) (cond z (refused 7 (firstBad good n b)) (accepted us))) ≡ accepted vs
+            → WholeOf good n b (records b)
+        go false y z p q r e = not-accepted 1 0 vs e
+        go true false z p q r e = not-accepted 6 0 vs e
+        go true true true p q r e = not-accepted 7 (firstBad good n b) vs e
+        go true true false p q r e =
+            let l = length-is (length b) q in
+            let f : Found (badRecord good n b) 0 (records b) (firstBad good n b) = unfold firstBad in (rw (zero-add (records b)) at (found (badRecord good n b) 0 (records b))) in
+            record {
+              lines = p;
+              size = omega arith;
+              most = omega arith;
+              each = λ i lt. good-is i (f .before i (omega arith) (omega (arith, ltb-false (firstBad good n b) (records b) r)));
+            }
 
-  accepted-not : {A : Type 0} (k p : ℕ) (vs : List ℕ) → accepted vs ≡ refused k p → A
-  accepted-not k p vs e = let z : _≡_ {A = ℕ} 0 1 = cc in absurd (omega arith)
+    pub behind-value : (u v : ℕ) → us ≡ u ∷ [] → onLines n (onRecords good n b (accepted us)) ≡ accepted (v ∷ []) → v ≡ u
+    behind-value u v is e =
+        let a : accepted us ≡ accepted (v ∷ []) = sym (records-passed (accepted us) (records b) (behind-whole (v ∷ []) e)) ∙ e in
+        cc
 
-  -- accepted: the bytes are records, each a gate
-  pub check-whole : (vs : List ℕ) → checkAnswer n b ≡ accepted vs → Whole n b (records b)
-  unfolding checkAnswer onLines sound refusing
-  check-whole vs = go (linesOk n) (lengthOk (length b)) (ltb (firstBad n b) (records b)) refl refl refl
-    where
-      go : (x y z : Bool) → linesOk n ≡ x → lengthOk (length b) ≡ y → ltb (firstBad n b) (records b) ≡ z
-          → cond (not x) (refused 1 0) (cond (not y) (refused 6 0) (cond z (refused 7 (firstBad n b)) (accepted (records b ∷ [])))) ≡ accepted vs → Whole n b (records b)
-      go false y z p q r e = refused-not 1 0 vs e
-      go true false z p q r e = refused-not 6 0 vs e
-      go true true true p q r e = refused-not 7 (firstBad n b) vs e
-      go true true false p q r e =
-          let l = length-is (length b) q in
-          let f : Found (badRecord n b) 0 (records b) (firstBad n b) = unfold firstBad in (rw (zero-add (records b)) at (found (badRecord n b) 0 (records b))) in
-          record {
-            lines = p;
-            size = omega arith;
-            most = omega arith;
-            each = λ i lt. good-is i (f .before i (omega arith) (omega (arith, ltb-false (firstBad n b) (records b) r)));
-          }
-
-  pub check-count : (m : ℕ) → checkAnswer n b ≡ accepted (m ∷ []) → m ≡ records b
-  unfolding checkAnswer
-  check-count m e =
-      let a : accepted (records b ∷ []) ≡ accepted (m ∷ []) = sym (passed (accepted (records b ∷ [])) (records b) (check-whole (m ∷ []) e)) ∙ e in
-      cc
-
-  -- refused: so is every other call behind 1, 6 and 7
-  pub check-refused : (k p : ℕ) (x : Answer) → checkAnswer n b ≡ refused k p → onLines n (sound n b x) ≡ refused k p
-  unfolding checkAnswer onLines sound refusing
-  check-refused k p x = go (linesOk n) (lengthOk (length b)) (ltb (firstBad n b) (records b))
-    where
-      go : (s t u : Bool) → cond (not s) (refused 1 0) (cond (not t) (refused 6 0) (cond u (refused 7 (firstBad n b)) (accepted (records b ∷ [])))) ≡ refused k p
-          → cond (not s) (refused 1 0) (cond (not t) (refused 6 0) (cond u (refused 7 (firstBad n b)) x)) ≡ refused k p
-      go false t u e = e
-      go true false u e = e
-      go true true true e = e
-      go true true false e = accepted-not k p (records b ∷ []) e
+    -- refused: so is every other call behind 1, 6 and 7
+    pub behind-refused : (k p : ℕ) (x : Answer) → onLines n (onRecords good n b (accepted us)) ≡ refused k p → onLines n (onRecords good n b x) ≡ refused k p
+    unfolding onLines onRecords refusing
+    behind-refused k p x = go (linesOk n) (lengthOk (length b)) (ltb (firstBad good n b) (records b))
+      where
+        go : (s t u : Bool) → cond (not s) (refused 1 0) (cond (not t) (refused 6 0) (cond u (refused 7 (firstBad good n b)) (accepted us))) ≡ refused k p
+            → cond (not s) (refused 1 0) (cond (not t) (refused 6 0) (cond u (refused 7 (firstBad good n b)) x)) ≡ refused k p
+        go false t u e = e
+        go true false u e = e
+        go true true true e = e
+        go true true false e = not-accepted k p us (sym e)

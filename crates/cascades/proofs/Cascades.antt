@@ -12,14 +12,10 @@ use Rattle.ranges.proofs.Spans.{length-span, span-more, span-ends, span-snoc, s
 use Rattle.card.proofs.Cards.{lines-are}
 use Rattle.gates.specs.declared.Gate.{Gate}
 use Rattle.gates.specs.Gates.{applied, IsGate}
-use Rattle.gates.specs.Records.{gateAt}
 use Rattle.gates.proofs.Gates.{applied-lt}
 use Rattle.gates.proofs.Records.{gate-at}
-use Rattle.cascades.specs.Cascades.{records, gatesOf, ran, Whole, Cascade}
-
--- gate i of a list of bytes
-abbrev pub gateOf : List ℕ → ℕ → Gate
-gateOf b i = gateAt b (8 * i)
+use Rattle.cascades.specs.Cascades.{records, gateIn, gatesOf, ran, Cascade}
+use Rattle.cascades.specs.Inner.Checked.{Whole}
 
 -- running one list after another
 pub run-append : (gs hs : List Gate) (p : ℕ) → ran (gs ++ hs) p ≡ ran hs (ran gs p)
@@ -33,28 +29,28 @@ run-lt n (g ∷ gs) p each lt = rw (through-cons applied g gs p) (run-lt n gs (a
 pub gates-good : (n : ℕ) (b : List ℕ) (m : ℕ) → Whole n b m → Each (IsGate n) (gatesOf b)
 unfolding gatesOf
 gates-good n b m w =
-    span-each (IsGate n) (gateOf b) 0 (records b)
+    span-each (IsGate n) (gateIn b) 0 (records b)
     (λ i le lt. gate-at n b (8 * i) (lines-are n (w .lines) .1) (w .each i (omega (arith, w .size))))
 
 pub gates-count : (b : List ℕ) → length (gatesOf b) ≡ records b
 unfolding gatesOf
-gates-count b = length-span (gateOf b) 0 (records b)
+gates-count b = length-span (gateIn b) 0 (records b)
 
 pub whole-cascade : (n : ℕ) (b : List ℕ) (m : ℕ) → Whole n b m → Cascade n (gatesOf b)
 whole-cascade n b m w = record { gates = gates-good n b m w; most = omega (arith, gates-count b, w .size, w .most) }
 
 -- ---- one turn of a loop over the records, and its end
 
-pub run-more : (b : List ℕ) (m i p : ℕ) → i < m → ran (span (gateOf b) (i + 1) (m - (i + 1))) (applied (gateOf b i) p) ≡ ran (span (gateOf b) i (m - i)) p
-run-more b m i p lt = sym (rw (span-more (gateOf b) m i lt) (through-cons applied (gateOf b i) (span (gateOf b) (i + 1) (m - (i + 1))) p))
+pub run-more : (b : List ℕ) (m i p : ℕ) → i < m → ran (span (gateIn b) (i + 1) (m - (i + 1))) (applied (gateIn b i) p) ≡ ran (span (gateIn b) i (m - i)) p
+run-more b m i p lt = sym (rw (span-more (gateIn b) m i lt) (through-cons applied (gateIn b i) (span (gateIn b) (i + 1) (m - (i + 1))) p))
 
-pub run-ends : (b : List ℕ) (m i p : ℕ) → m ≤ i → ran (span (gateOf b) i (m - i)) p ≡ p
-run-ends b m i p le = rw (span-ends (gateOf b) m i le) (through-nil applied p)
+pub run-ends : (b : List ℕ) (m i p : ℕ) → m ≤ i → ran (span (gateIn b) i (m - i)) p ≡ p
+run-ends b m i p le = rw (span-ends (gateIn b) m i le) (through-nil applied p)
 
 -- the first i + 1 records, run
-pub run-snoc : (b : List ℕ) (i p : ℕ) → ran (span (gateOf b) 0 (i + 1)) p ≡ applied (gateOf b i) (ran (span (gateOf b) 0 i) p)
+pub run-snoc : (b : List ℕ) (i p : ℕ) → ran (span (gateIn b) 0 (i + 1)) p ≡ applied (gateIn b i) (ran (span (gateIn b) 0 i) p)
 run-snoc b i p =
     let e : i + 1 ≡ suc i = omega arith in
-    let s : span (gateOf b) 0 (suc i) ≡ span (gateOf b) 0 i ++ (gateOf b i ∷ []) = rw (zero-add i) at (span-snoc (gateOf b) 0 i) in
-    rw (e, s, run-append (span (gateOf b) 0 i) (gateOf b i ∷ []) p)
-    (through-cons applied (gateOf b i) [] (ran (span (gateOf b) 0 i) p) ∙ through-nil applied (applied (gateOf b i) (ran (span (gateOf b) 0 i) p)))
+    let s : span (gateIn b) 0 (suc i) ≡ span (gateIn b) 0 i ++ (gateIn b i ∷ []) = rw (zero-add i) at (span-snoc (gateIn b) 0 i) in
+    rw (e, s, run-append (span (gateIn b) 0 i) (gateIn b i ∷ []) p)
+    (through-cons applied (gateIn b i) [] (ran (span (gateIn b) 0 i) p) ∙ through-nil applied (applied (gateIn b i) (ran (span (gateIn b) 0 i) p)))

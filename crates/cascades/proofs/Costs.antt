@@ -16,9 +16,9 @@ use Rattle.ranges.proofs.Spans.{span-more, span-ends}
 use Rattle.ranges.proofs.Lists.{each-imp, total-append, total-le}
 use Rattle.gates.specs.declared.Gate.{Gate}
 use Rattle.gates.specs.Gates.{control, IsGate}
-use Rattle.cascades.specs.Cascades.{Cascade}
-use Rattle.cascades.specs.Prices.{base, controlCount, others, gatePrice, withControls, cascadePrice}
-use Rattle.cascades.proofs.Cascades.{gateOf}
+use Rattle.cascades.specs.Cascades.{gateIn, Cascade}
+use Rattle.cascades.specs.Prices.{base, controlCount, others, gatePrice, cascadePrice}
+use Rattle.cascades.specs.Inner.Pricing.{withControls}
 
 pub base-small : (k : ℕ) → k < 2 → base k ≡ 1
 unfolding base
@@ -89,13 +89,13 @@ price-append v gs hs = total-append (gatePrice v) gs hs
 
 -- one turn of a loop that adds prices up, and its end
 pub price-more : (v : ℕ) (b : List ℕ) (m i cost : ℕ) → i < m
-    → cost + gatePrice v (gateOf b i) + cascadePrice v (span (gateOf b) (i + 1) (m - (i + 1))) ≡ cost + cascadePrice v (span (gateOf b) i (m - i))
+    → cost + gatePrice v (gateIn b i) + cascadePrice v (span (gateIn b) (i + 1) (m - (i + 1))) ≡ cost + cascadePrice v (span (gateIn b) i (m - i))
 unfolding cascadePrice total
-price-more v b m i cost lt = rw (span-more (gateOf b) m i lt, add-assoc)
+price-more v b m i cost lt = rw (span-more (gateIn b) m i lt, add-assoc)
 
-pub price-ends : (v : ℕ) (b : List ℕ) (m i cost : ℕ) → m ≤ i → cost + cascadePrice v (span (gateOf b) i (m - i)) ≡ cost
+pub price-ends : (v : ℕ) (b : List ℕ) (m i cost : ℕ) → m ≤ i → cost + cascadePrice v (span (gateIn b) i (m - i)) ≡ cost
 unfolding cascadePrice total
-price-ends v b m i cost le = rw (span-ends (gateOf b) m i le, add-zero)
+price-ends v b m i cost le = rw (span-ends (gateIn b) m i le, add-zero)
 
 -- the dearest gate has five controls, none of the global value: 75 and 10
 pub price-le : (n v : ℕ) (g : Gate) → n ≤ 6 → IsGate n g → gatePrice v g ≤ 85

@@ -3,5 +3,5 @@ pub mod Undone
 pub mod Costs
 pub mod Answers
 pub mod Stored
-pub mod Sounds
+pub mod Checks
 pub mod Readings

@@ -17,8 +17,8 @@ use Rattle.gates.specs.declared.Gate.{Gate}
 use Rattle.gates.specs.Gates.{IsGate}
 use Rattle.gates.specs.Records.{lineOk, linesOkAt, isRecord, recordOf}
 use Rattle.gates.proofs.Records.{length-record, record-written}
-use Rattle.cascades.specs.Cascades.{records, gatesOf, bytesOf, Whole, Cascade}
-use Rattle.cascades.proofs.Cascades.{gateOf}
+use Rattle.cascades.specs.Cascades.{gateIn, records, gatesOf, bytesOf, Cascade}
+use Rattle.cascades.specs.Inner.Checked.{Whole}
 use Rattle.cascades.proofs.Stored.{length-bytes, laid-gates}
 
 -- equal bytes are the same record
@@ -59,5 +59,5 @@ unfolding gatesOf laid
 bytes-gates n gs each =
     let all : drop (length (bytesOf gs)) (bytesOf gs) ≡ [] = drop-of-length-le (bytesOf gs) {i = length (bytesOf gs)} (omega arith) in
     let count : records (bytesOf gs) ≡ length gs = omega (arith, length-bytes gs) in
-    let read : span (gateOf (laid (bytesOf gs) (bytesOf gs))) 0 (length gs) ≡ gs = laid-gates n gs (bytesOf gs) each (omega (arith, length-bytes gs)) in
+    let read : span (gateIn (laid (bytesOf gs) (bytesOf gs))) 0 (length gs) ≡ gs = laid-gates n gs (bytesOf gs) each (omega (arith, length-bytes gs)) in
     rw count (rw (all, append-nil) at read)

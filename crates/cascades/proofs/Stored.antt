@@ -16,12 +16,11 @@ use Rattle.card.proofs.Cards.{sets-laid}
 use Rattle.gates.specs.declared.Gate.{Gate}
 use Rattle.gates.specs.Gates.{inverseOp, inverse, IsGate}
 use Rattle.gates.specs.Records.{isRecord, gateAt, recordOf}
-use Rattle.gates.specs.Words.{byte, Word, bytesIn}
+use Rattle.gates.specs.Inner.Words.{byte, Word, bytesIn}
 use Rattle.gates.proofs.Operators.{inverse-is-op}
 use Rattle.gates.proofs.Bytes.{low-replaced}
 use Rattle.gates.proofs.Records.{reads, length-record, record-again, gate-written, gate-ext}
-use Rattle.cascades.specs.Cascades.{records, gatesOf, bytesOf, undoing}
-use Rattle.cascades.proofs.Cascades.{gateOf}
+use Rattle.cascades.specs.Cascades.{gateIn, records, gatesOf, bytesOf, undoing}
 
 -- the record of a gate's inverse is its own but for the operator
 pub record-inverse : (n : ℕ) (b : List ℕ) (at : ℕ) → isRecord n b at ≡ true
@@ -58,27 +57,27 @@ unfolding bytesOf
 stored-ends f room m i j le = rw (span-ends f m i le)
 
 -- the gates that undo a cascade of m records, by their place
-pub undoing-span : (b : List ℕ) (m : ℕ) → records b ≡ m → undoing (gatesOf b) ≡ span (λ i. inverse (gateOf b (m - (i + 1)))) 0 m
+pub undoing-span : (b : List ℕ) (m : ℕ) → records b ≡ m → undoing (gatesOf b) ≡ span (λ i. inverse (gateIn b (m - (i + 1)))) 0 m
 unfolding undoing gatesOf
-undoing-span b m e = rw (e, map-span inverse (gateOf b) 0 m) (reverse-span (λ i. inverse (gateOf b i)) m)
+undoing-span b m e = rw (e, map-span inverse (gateIn b) 0 m) (reverse-span (λ i. inverse (gateIn b i)) m)
 
 -- the gates whose records were written from record i on are read back there
 pub read-back : (n : ℕ) (gs : List Gate) (out : List ℕ) (i : ℕ) → Each (IsGate n) gs → 8 * (i + length gs) ≤ length out
-    → span (gateOf (sets out (8 * i) (bytesOf gs))) i (length gs) ≡ gs
+    → span (gateIn (sets out (8 * i) (bytesOf gs))) i (length gs) ≡ gs
 unfolding span bytesOf
 read-back n [] out i each fits = refl
 read-back n (g ∷ gs) out i each fits =
     let w : List ℕ = sets out (8 * i) (recordOf g) in
     let e : 8 * i + length (recordOf g) ≡ 8 * (i + 1) = rw (length-record g) (omega arith) in
-    let head : gateOf (sets (sets out (8 * i) (recordOf g)) (8 * (i + 1)) (bytesOf gs)) i ≡ g =
+    let head : gateIn (sets (sets out (8 * i) (recordOf g)) (8 * (i + 1)) (bytesOf gs)) i ≡ g =
     gate-ext (sets (sets out (8 * i) (recordOf g)) (8 * (i + 1)) (bytesOf gs)) (sets out (8 * i) (recordOf g)) (8 * i) (8 * i)
     (λ k lt. getD-sets-below (bytesOf gs) (sets out (8 * i) (recordOf g)) (8 * (i + 1)) (8 * i + k) 0 (omega arith))
     ∙ gate-written g out (8 * i) (omega arith) (each .0 .packed) in
-    let tail : span (gateOf (sets (sets out (8 * i) (recordOf g)) (8 * (i + 1)) (bytesOf gs))) (i + 1) (length gs) ≡ gs =
+    let tail : span (gateIn (sets (sets out (8 * i) (recordOf g)) (8 * (i + 1)) (bytesOf gs))) (i + 1) (length gs) ≡ gs =
     read-back n gs (sets out (8 * i) (recordOf g)) (i + 1) (each .1) (rw (length-sets out (8 * i) (recordOf g)) (omega arith)) in
     rw (sets-append (recordOf g) (bytesOf gs) out (8 * i), e) (ap₂ (λ (x : Gate) (l : List Gate). x ∷ l) head tail)
 
 -- so a room that was laid out with a cascade's records holds that cascade
-pub laid-gates : (n : ℕ) (gs : List Gate) (room : List ℕ) → Each (IsGate n) gs → 8 * length gs ≤ length room → span (gateOf (laid (bytesOf gs) room)) 0 (length gs) ≡ gs
+pub laid-gates : (n : ℕ) (gs : List Gate) (room : List ℕ) → Each (IsGate n) gs → 8 * length gs ≤ length room → span (gateIn (laid (bytesOf gs) room)) 0 (length gs) ≡ gs
 laid-gates n gs room each fits =
     rw (← sets-laid (bytesOf gs) room (rw (length-bytes gs) fits)) (read-back n gs room 0 each (rw (zero-add (length gs)) fits))

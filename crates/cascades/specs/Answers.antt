@@ -33,35 +33,41 @@ pricedAs (Priced.Refused k p) = refused k p
 unfoldable pub lengthOk : ℕ → Bool
 lengthOk l = eqb (l % 8) 0 && leb l (8 * 8000)
 
--- record i is no gate on n lines
-unfoldable pub badRecord : ℕ → List ℕ → ℕ → Bool
-badRecord n b i = not (isRecord n b (8 * i))
+-- `good n b at` says what a record of a gate on n lines is: the 8 bytes of b from place at on
+module _ (good : ℕ → List ℕ → ℕ → Bool) where
+  -- record i is none
+  unfoldable pub badRecord : ℕ → List ℕ → ℕ → Bool
+  badRecord n b i = not (good n b (8 * i))
 
--- the first such record, or the number of records
-unfoldable pub firstBad : ℕ → List ℕ → ℕ
-firstBad n b = first (badRecord n b) 0 (records b)
+  -- the first such record, or the number of records
+  unfoldable pub firstBad : ℕ → List ℕ → ℕ
+  firstBad n b = first (badRecord n b) 0 (records b)
 
--- 6 and 7 of the cascade b, and else the answer x
-unfoldable pub sound : ℕ → List ℕ → Answer → Answer
-sound n b x = refusing (not (lengthOk (length b))) 6 0 (refusing (ltb (firstBad n b) (records b)) 7 (firstBad n b) x)
+  -- 6 and 7 of the bytes b, and else the answer x
+  unfoldable pub onRecords : ℕ → List ℕ → Answer → Answer
+  onRecords n b x = refusing (not (lengthOk (length b))) 6 0 (refusing (ltb (firstBad n b) (records b)) 7 (firstBad n b) x)
+
+-- the same of a cascade of ternary gates
+abbrev pub onCascade : ℕ → List ℕ → Answer → Answer
+onCascade n b x = onRecords isRecord n b x
 
 -- ---- the calls
 
 -- 1 6 7
 unfoldable pub checkAnswer : ℕ → List ℕ → Answer
-checkAnswer n b = onLines n (sound n b (accepted (records b ∷ [])))
+checkAnswer n b = onLines n (onCascade n b (accepted (records b ∷ [])))
 
 -- 1 6 7 8
 unfoldable pub runAnswer : ℕ → List ℕ → ℕ → Answer
-runAnswer n b p = onLines n (sound n b (refusing (leb (3 ^ n) p) 8 0 (accepted (ran (gatesOf b) p ∷ []))))
+runAnswer n b p = onLines n (onCascade n b (refusing (leb (3 ^ n) p) 8 0 (accepted (ran (gatesOf b) p ∷ []))))
 
 -- 1 6 7 5: a room of so many bytes
 unfoldable pub invertAnswer : ℕ → List ℕ → ℕ → Answer
-invertAnswer n b room = onLines n (sound n b (refusing (ltb (room / 8) (records b)) 5 (records b) (accepted (records b ∷ []))))
+invertAnswer n b room = onLines n (onCascade n b (refusing (ltb (room / 8) (records b)) 5 (records b) (accepted (records b ∷ []))))
 
 unfoldable pub invertRoom : ℕ → List ℕ → List ℕ → List ℕ
 invertRoom n b room = after (invertAnswer n b (length room)) (laid (bytesOf (undoing (gatesOf b))) room) room
 
 -- 1 10 6 7
 unfoldable pub priceAnswer : ℕ → ℕ → List ℕ → Answer
-priceAnswer n v b = onLines n (refusing (ltb 2 v) 10 0 (sound n b (accepted (cascadePrice v (gatesOf b) ∷ []))))
+priceAnswer n v b = onLines n (refusing (ltb 2 v) 10 0 (onCascade n b (accepted (cascadePrice v (gatesOf b) ∷ []))))

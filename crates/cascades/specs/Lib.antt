@@ -1,3 +1,4 @@
 pub mod Cascades
 pub mod Prices
 pub mod Answers
+pub mod Inner

@@ -27,10 +27,6 @@ others v g = sum (λ k. cond (eqb (control g k) 3 || eqb (control g k) v) 0 1) 0
 unfoldable pub gatePrice : ℕ → Gate → ℕ
 gatePrice v g = base (controlCount g) + 2 * others v g
 
--- a gate with the packed controls c: its operator and target do not matter to its price
-abbrev pub withControls : ℕ → Gate
-withControls c = record { operator = 0; target = 0; controls = c }
-
 -- a cascade costs the sum
 unfoldable pub cascadePrice : ℕ → List Gate → ℕ
 cascadePrice v gs = total (gatePrice v) gs

@@ -7,7 +7,7 @@ ghost use lib.ListN.{length};
 ghost use Rattle.card.specs.Card.{linesOk, Answer.accepted};
 ghost use Rattle.cascades.specs.Cascades.{gatesOf, ran};
 ghost use Rattle.cascades.specs.Prices.{cascadePrice};
-ghost use Rattle.cascades.specs.Answers.{countedAs, ranAs, pricedAs, sound, checkAnswer, runAnswer, invertAnswer, invertRoom, priceAnswer};
+ghost use Rattle.cascades.specs.Answers.{countedAs, ranAs, pricedAs, onCascade, checkAnswer, runAnswer, invertAnswer, invertRoom, priceAnswer};
 
 pub mod lengths;
 mod prices;
@@ -64,7 +64,7 @@ pub fn check_cascade(lines: u8, cascade: &[u8]) -> Counted
 // The cascade on a pattern of so many lines, with refusals 6 and 7 on the way.
 fn run_on(lines: u8, cascade: &[u8], pattern: u16) -> Ran
     requires { ⌜ (linesOk lines ≡ true) × (pattern < 3 ^ lines) ⌝ }
-    ensures { λ r. ⌜ ranAs r ≡ sound lines (now (cascade .entry)) (accepted (ran (gatesOf (now (cascade .entry))) pattern ∷ [])) ⌝ }
+    ensures { λ r. ⌜ ranAs r ≡ onCascade lines (now (cascade .entry)) (accepted (ran (gatesOf (now (cascade .entry))) pattern ∷ [])) ⌝ }
 {
     if !lengths::length_ok(cascade.len()) {
         return Ran::Refused {
@@ -138,7 +138,7 @@ pub fn invert(lines: u8, cascade: &[u8], room: &mut [u8]) -> Counted
 // The sum of the gates' prices, with refusals 6 and 7 on the way.
 fn price_on(lines: u8, value: u8, cascade: &[u8]) -> Priced
     requires { ⌜ linesOk lines ≡ true ⌝ }
-    ensures { λ r. ⌜ pricedAs r ≡ sound lines (now (cascade .entry)) (accepted (cascadePrice value (gatesOf (now (cascade .entry))) ∷ [])) ⌝ }
+    ensures { λ r. ⌜ pricedAs r ≡ onCascade lines (now (cascade .entry)) (accepted (cascadePrice value (gatesOf (now (cascade .entry))) ∷ [])) ⌝ }
 {
     if !lengths::length_ok(cascade.len()) {
         return Priced::Refused {

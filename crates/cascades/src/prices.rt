@@ -3,7 +3,8 @@ ghost use mathlib.Core.Path.{_≡_};
 ghost use mathlib.Core.Bool.{cond, _||_};
 ghost use Prim.Native.Nat.{_≤_};
 ghost use lib.Dec.{eqb};
-ghost use Rattle.cascades.specs.Prices.{base, others, gatePrice, withControls};
+ghost use Rattle.cascades.specs.Prices.{base, others, gatePrice};
+ghost use Rattle.cascades.specs.Inner.Pricing.{withControls};
 
 // The base price of k controls.
 fn base_price(k: usize) -> u32

@@ -2,12 +2,13 @@
 ghost use mathlib.Core.Path.{_≡_};
 ghost use mathlib.Core.Bool.{true};
 ghost use Rattle.card.specs.Card.{linesOk};
+ghost use Rattle.gates.specs.Records.{isRecord};
 ghost use Rattle.cascades.specs.Answers.{firstBad};
 
 // The first record that is no gate on so many lines, or the number of records.
 pub fn first_bad(lines: u8, cascade: &[u8]) -> usize
     requires { ⌜ linesOk lines ≡ true ⌝ }
-    ensures { λ r. ⌜ r ≡ firstBad lines (now (cascade .entry)) ⌝ }
+    ensures { λ r. ⌜ r ≡ firstBad isRecord lines (now (cascade .entry)) ⌝ }
 {
     let count = cascade.len() / 8;
     let mut i: usize = 0;

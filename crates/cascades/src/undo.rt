@@ -6,7 +6,8 @@ ghost use lib.ListN.{length};
 ghost use lib.Seq.{sets};
 ghost use Rattle.gates.specs.Gates.{inverse};
 ghost use Rattle.gates.specs.Records.{isRecord, gateAt, recordOf};
-ghost use Rattle.cascades.specs.Cascades.{Whole, gatesOf, bytesOf, undoing};
+ghost use Rattle.cascades.specs.Cascades.{gatesOf, bytesOf, undoing};
+ghost use Rattle.cascades.specs.Inner.Checked.{Whole};
 
 // The inverse of the gate at one place, to another: the same record but for the operator.
 fn copy_inverse(lines: u8, cascade: &[u8], from: usize, room: &mut [u8], to: usize)

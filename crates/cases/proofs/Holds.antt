@@ -5,13 +5,13 @@ use Rattle.ranges.specs.Ranges.{every, some, sum, first, span}
 use Rattle.ranges.specs.Lists.{total, through}
 use Rattle.digits.specs.Digits.{digit, put, pack}
 use Rattle.card.specs.Card.{refusing, linesOk, onLines, after}
-use Rattle.gates.specs.Gates.{act, inverseOp, holds, firesOn, applied, inverse}
+use Rattle.gates.specs.Gates.{act, inverseOp, holds, firesOn, changed, applied, inverse}
 use Rattle.gates.specs.Records.{lineOk, linesOkAt, packedAt, isRecord, gateAt, recordOf}
-use Rattle.tables.specs.Tables.{tooLarge, repeated, firstLarge, firstRepeated, tabled, checkTableAnswer}
+use Rattle.tables.specs.Tables.{tooLarge, repeated, firstLarge, firstRepeated, onTable, checkTableAnswer}
 use Rattle.procedure.specs.Procedure.{adding, digitStep, rowSteps, rows, settled, cascadeFor}
-use Rattle.cascades.specs.Cascades.{gatesOf, bytesOf, tableOf}
+use Rattle.cascades.specs.Cascades.{gatesOf, bytesOf, tableFor}
 use Rattle.cascades.specs.Prices.{base, controlCount, others, gatePrice, cascadePrice}
-use Rattle.cascades.specs.Answers.{lengthOk, badRecord, firstBad, sound, priceAnswer}
+use Rattle.cascades.specs.Answers.{lengthOk, badRecord, firstBad, onRecords, priceAnswer}
 use Rattle.synthesis.specs.Synthesis.{exchanger, controlFor, gateFor, synthesized, bound, synthesizeAnswer}
 use Rattle.rules.specs.Places.{isC, sameType, upsets, blocks, clashes, mayChange}
 use Rattle.rules.specs.Rules.{sameLines, differAt, differences, lineOf, cancels, merges, reduces, fits, withControl, loosened, retuned}
@@ -19,5 +19,5 @@ use Rattle.rules.specs.Tidying.{isOpen, fitting, firstJ, firstI, without, ruled
 use Rattle.cases.specs.Cases.{Case, cases}
 
 pub all-hold : map (λ (c : Case). c .given) cases ≡ map (λ (c : Case). c .printed) cases
-unfolding every some sum first span total through digit put pack refusing linesOk onLines after act inverseOp holds firesOn applied inverse lineOk linesOkAt packedAt isRecord gateAt recordOf tooLarge repeated firstLarge firstRepeated tabled checkTableAnswer adding digitStep rowSteps rows settled cascadeFor gatesOf bytesOf tableOf base controlCount others gatePrice cascadePrice lengthOk badRecord firstBad sound priceAnswer exchanger controlFor gateFor synthesized bound synthesizeAnswer isC sameType upsets blocks clashes mayChange sameLines differAt differences lineOf cancels merges reduces fits withControl loosened retuned isOpen fitting firstJ firstI without ruled untidy step tidiedIn size tidied tidyAnswer tidyBuffer
+unfolding every some sum first span total through digit put pack refusing linesOk onLines after act inverseOp holds firesOn changed applied inverse lineOk linesOkAt packedAt isRecord gateAt recordOf tooLarge repeated firstLarge firstRepeated onTable checkTableAnswer adding digitStep rowSteps rows settled cascadeFor gatesOf bytesOf tableFor base controlCount others gatePrice cascadePrice lengthOk badRecord firstBad onRecords priceAnswer exchanger controlFor gateFor synthesized bound synthesizeAnswer isC sameType upsets blocks clashes mayChange sameLines differAt differences lineOf cancels merges reduces fits withControl loosened retuned isOpen fitting firstJ firstI without ruled untidy step tidiedIn size tidied tidyAnswer tidyBuffer
 all-hold = refl

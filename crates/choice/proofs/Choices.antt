@@ -16,10 +16,12 @@ use Rattle.ranges.proofs.Spans.{length-span, span-at, span-ext}
 use Rattle.card.specs.Card.{Answer, Answer.accepted, Answer.refused, refusing, linesOk, onLines}
 use Rattle.card.proofs.Cards.{no-lines, good-lines, refusing-yes, refusing-no}
 use Rattle.gates.specs.declared.Gate.{Gate}
-use Rattle.cascades.specs.Cascades.{records, gatesOf, ran, tableOf, Whole}
+use Rattle.cascades.specs.Cascades.{records, gatesOf, ran, tableFor, tableOf}
+use Rattle.cascades.specs.Inner.Checked.{Whole}
 use Rattle.cascades.specs.Prices.{cascadePrice}
-use Rattle.cascades.specs.Answers.{sound, checkAnswer, priceAnswer}
-use Rattle.cascades.proofs.Answers.{passed, check-whole, check-refused}
+use Rattle.cascades.specs.Answers.{onCascade, checkAnswer, priceAnswer}
+use Rattle.cascades.proofs.Checks.{passed}
+use Rattle.cascades.proofs.Checks.{check-whole, check-refused}
 use Rattle.choice.specs.Choice.{firstDifference, firstUnlike, secondWins, chooseAnswer, Handed}
 
 -- ---- the first difference
@@ -31,7 +33,7 @@ first-ext f g i zero h = refl
 first-ext f g i (suc m) h = rw (h i (omega arith) (omega arith), first-ext f g (i + 1) m (λ k le lt. h k (omega arith) (omega arith)))
 
 entry : (n : ℕ) (gs : List Gate) (p : ℕ) → p < 3 ^ n → getD (tableOf n gs) p 0 ≡ ran gs p
-unfolding tableOf
+unfolding tableFor
 entry n gs p lt = rw (zero-add p) at (span-at (ran gs) 0 (3 ^ n) p 0 lt)
 
 -- two tables differ first where the gates do
@@ -43,7 +45,7 @@ first-unlike n gs hs =
     (λ p le lt. rw (entry n gs p (omega arith), entry n hs p (omega arith))))
   where
     long : length (tableOf n gs) ≡ 3 ^ n
-    long = unfold tableOf in length-span (ran gs) 0 (3 ^ n)
+    long = unfold tableFor in length-span (ran gs) 0 (3 ^ n)
 
 -- and there is such an input exactly where the tables are not the same
 module _ (n : ℕ) (gs hs : List Gate) where
@@ -52,7 +54,7 @@ module _ (n : ℕ) (gs hs : List Gate) where
   searched = rw (zero-add (3 ^ n)) at (found (λ p. not (eqb (ran gs p) (ran hs p))) 0 (3 ^ n))
 
   pub same-tables : 3 ^ n ≤ firstDifference n gs hs → tableOf n gs ≡ tableOf n hs
-  unfolding tableOf
+  unfolding tableFor
   same-tables le =
       span-ext (ran gs) (ran hs) 0 (3 ^ n)
       (λ p from lt. eqb-true (ran gs p) (ran hs p) (not-false (eqb (ran gs p) (ran hs p)) (searched .before p from (omega arith))))
@@ -65,8 +67,8 @@ module _ (n : ℕ) (gs hs : List Gate) where
 -- ---- 1, 10, 6 and 7
 
 -- a cascade that was checked is let through
-sound-passed : (n : ℕ) (b : List ℕ) (m : ℕ) (x : Answer) → Whole n b m → sound n b x ≡ x
-sound-passed n b m x w = sym (good-lines n (sound n b x) (w .lines)) ∙ passed n b x m w
+on-cascade-passed : (n : ℕ) (b : List ℕ) (m : ℕ) (x : Answer) → Whole n b m → onCascade n b x ≡ x
+on-cascade-passed n b m x w = sym (good-lines n (onCascade n b x) (w .lines)) ∙ passed n b x m w
 
 module _ (n v : ℕ) (b : List ℕ) where
   -- a price: lines, value and cascade are right
@@ -78,19 +80,19 @@ module _ (n v : ℕ) (b : List ℕ) where
   -- what the answer of pricing says: a refusal is that of every call behind 1, 10, 6 and 7
   abbrev pub Says : Answer → Type 0
   Says (accepted vs) = Costs vs
-  Says (refused k p) = (x : Answer) → onLines n (refusing (ltb 2 v) 10 0 (sound n b x)) ≡ refused k p
+  Says (refused k p) = (x : Answer) → onLines n (refusing (ltb 2 v) 10 0 (onCascade n b x)) ≡ refused k p
 
   pub price-says : (a : Answer) → priceAnswer n v b ≡ a → Says a
   unfolding priceAnswer
   price-says a e = subst Says e (go (linesOk n) (ltb 2 v) (checkAnswer n b) refl refl refl)
     where
       go : (s t : Bool) (c : Answer) → linesOk n ≡ s → ltb 2 v ≡ t → checkAnswer n b ≡ c
-          → Says (onLines n (refusing (ltb 2 v) 10 0 (sound n b (accepted (cascadePrice v (gatesOf b) ∷ [])))))
+          → Says (onLines n (refusing (ltb 2 v) 10 0 (onCascade n b (accepted (cascadePrice v (gatesOf b) ∷ [])))))
       go false t c p q r = subst Says (sym (no-lines n _ p)) (λ x. no-lines n _ p)
       go true true c p q r = subst Says (sym (good-lines n _ p ∙ refusing-yes (ltb 2 v) 10 0 _ q)) (λ x. good-lines n _ p ∙ refusing-yes (ltb 2 v) 10 0 _ q)
       go true false (refused k m) p q r =
-          let behind : (x : Answer) → onLines n (refusing (ltb 2 v) 10 0 (sound n b x)) ≡ refused k m =
-          λ x. ap (onLines n) (refusing-no (ltb 2 v) 10 0 (sound n b x) q) ∙ check-refused n b k m x r in
+          let behind : (x : Answer) → onLines n (refusing (ltb 2 v) 10 0 (onCascade n b x)) ≡ refused k m =
+          λ x. ap (onLines n) (refusing-no (ltb 2 v) 10 0 (onCascade n b x) q) ∙ check-refused n b k m x r in
           subst Says (sym (behind (accepted (cascadePrice v (gatesOf b) ∷ [])))) behind
       go true false (accepted vs) p q r =
           let w = check-whole n b vs r in
@@ -106,15 +108,15 @@ module _ (n v : ℕ) (b c : List ℕ) where
   pub choose-second : (vs : List ℕ) (k p : ℕ) → priceAnswer n v b ≡ accepted vs → priceAnswer n v c ≡ refused k p → chooseAnswer n v b c ≡ refused k p
   unfolding chooseAnswer
   choose-second vs k p e f =
-      ap (λ (a : Answer). onLines n (refusing (ltb 2 v) 10 0 a)) (sound-passed n b _ _ (price-says n v b (accepted vs) e .whole)) ∙ price-says n v c (refused k p) f _
+      ap (λ (a : Answer). onLines n (refusing (ltb 2 v) 10 0 a)) (on-cascade-passed n b _ _ (price-says n v b (accepted vs) e .whole)) ∙ price-says n v c (refused k p) f _
 
   -- neither is: 11 decides, and then cost and length
   module _ (vs ws : List ℕ) (e : priceAnswer n v b ≡ accepted vs) (f : priceAnswer n v c ≡ accepted ws) where
-    let-through : (x : Answer) → onLines n (refusing (ltb 2 v) 10 0 (sound n b (sound n c x))) ≡ x
+    let-through : (x : Answer) → onLines n (refusing (ltb 2 v) 10 0 (onCascade n b (onCascade n c x))) ≡ x
     let-through x =
         let one = price-says n v b (accepted vs) e in
-        good-lines n _ (one .whole .lines) ∙ refusing-no (ltb 2 v) 10 0 _ (one .low) ∙ sound-passed n b _ _ (one .whole)
-        ∙ sound-passed n c _ _ (price-says n v c (accepted ws) f .whole)
+        good-lines n _ (one .whole .lines) ∙ refusing-no (ltb 2 v) 10 0 _ (one .low) ∙ on-cascade-passed n b _ _ (one .whole)
+        ∙ on-cascade-passed n c _ _ (price-says n v c (accepted ws) f .whole)
 
     pub choose-differ : (d : ℕ) → d ≡ firstDifference n (gatesOf b) (gatesOf c) → d < 3 ^ n → chooseAnswer n v b c ≡ refused 11 d
     unfolding chooseAnswer

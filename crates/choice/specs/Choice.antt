@@ -11,7 +11,7 @@ use Rattle.card.specs.Card.{Answer, Answer.accepted, Answer.refused, refusing, 
 use Rattle.gates.specs.declared.Gate.{Gate}
 use Rattle.cascades.specs.Cascades.{gatesOf, ran}
 use Rattle.cascades.specs.Prices.{cascadePrice}
-use Rattle.cascades.specs.Answers.{sound}
+use Rattle.cascades.specs.Answers.{onCascade}
 use Rattle.choice.specs.declared.Choice.{Choice}
 
 -- the document's number and values for each case: 1 the first, 2 the second
@@ -38,7 +38,7 @@ chooseAnswer n v b c =
     let gs = gatesOf b in
     let hs = gatesOf c in
     let d = firstDifference n gs hs in
-    onLines n (refusing (ltb 2 v) 10 0 (sound n b (sound n c (refusing (ltb d (3 ^ n)) 11 d (accepted (cond (secondWins v gs hs) 2 1 ∷ []))))))
+    onLines n (refusing (ltb 2 v) 10 0 (onCascade n b (onCascade n c (refusing (ltb d (3 ^ n)) 11 d (accepted (cond (secondWins v gs hs) 2 1 ∷ []))))))
 
 -- what is handed back for an answer: that lent cascade itself, or the empty part at the start of the first
 pub record Handed (a : Answer) (one two r : RefT (List ℕ)) : Type 0 where

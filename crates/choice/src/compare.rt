@@ -4,7 +4,8 @@ ghost use mathlib.Core.Bool.{_&&_, _||_};
 ghost use Prim.Native.Nat.{_^_};
 ghost use lib.Dec.{eqb, ltb};
 ghost use lib.ListN.{length};
-ghost use Rattle.cascades.specs.Cascades.{records, gatesOf, Whole};
+ghost use Rattle.cascades.specs.Cascades.{records, gatesOf};
+ghost use Rattle.cascades.specs.Inner.Checked.{Whole};
 ghost use Rattle.choice.specs.Choice.{firstUnlike, firstDifference};
 
 // The first index at which two tables differ, or their length.

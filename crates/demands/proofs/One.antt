@@ -8,11 +8,11 @@ use mathlib.Core.Logic.{_↔_}
 use mathlib.Core.List.{List, [], _∷_}
 use lib.ListN.{length}
 use Rattle.card.specs.Card.{Answer, Answer.accepted, Answer.refused, refusing, linesOk, onLines, after, values}
-use Rattle.tables.specs.Tables.{tabled, checkTableAnswer}
+use Rattle.tables.specs.Tables.{onTable, checkTableAnswer}
 use Rattle.gates.specs.Records.{isRecord, gateAt}
 use Rattle.cascades.specs.Cascades.{records, gatesOf, ran}
 use Rattle.cascades.specs.Prices.{cascadePrice}
-use Rattle.cascades.specs.Answers.{sound, checkAnswer, runAnswer, invertAnswer, invertRoom, priceAnswer}
+use Rattle.cascades.specs.Answers.{onRecords, checkAnswer, runAnswer, invertAnswer, invertRoom, priceAnswer}
 use Rattle.tabulating.specs.Tabulating.{tabulateAnswer, tabulateRoom}
 use Rattle.synthesis.specs.Synthesis.{bound, synthesized, synthesizeAnswer, synthesizeRoom}
 use Rattle.rules.specs.Tidying.{tidied, tidyAnswer, tidyBuffer}
@@ -49,12 +49,12 @@ kept answer new old k p e = rw e
 -- ---- the calls, with their rows in the card's order
 
 pub check-table : (n : ℕ) (t : List ℕ) → Exactly (checkTableAnswer n t) (row1 n ∷ row2 n (length t) ∷ row3 n t ∷ row4 t ∷ []) []
-unfolding checkTableAnswer onLines tabled decided
+unfolding checkTableAnswer onLines onTable decided
 check-table n t = exactly (row1 n ∷ row2 n (length t) ∷ row3 n t ∷ row4 t ∷ []) []
 
 pub synthesize : (n : ℕ) (t : List ℕ) (room : ℕ)
     → Exactly (synthesizeAnswer n t room) (row1 n ∷ row2 n (length t) ∷ row3 n t ∷ row4 t ∷ row5 (room / 8) (bound n) ∷ []) (length (synthesized n t) ∷ [])
-unfolding synthesizeAnswer onLines tabled decided
+unfolding synthesizeAnswer onLines onTable decided
 synthesize n t room = exactly (row1 n ∷ row2 n (length t) ∷ row3 n t ∷ row4 t ∷ row5 (room / 8) (bound n) ∷ []) (length (synthesized n t) ∷ [])
 
 pub synthesize-kept : (n : ℕ) (t room : List ℕ) → Kept (synthesizeAnswer n t (length room)) (synthesizeRoom n t room) room
@@ -62,15 +62,15 @@ unfolding synthesizeRoom
 synthesize-kept n t room = kept (synthesizeAnswer n t (length room)) _ room
 
 pub check-cascade : (n : ℕ) (b : List ℕ) → Exactly (checkAnswer n b) (row1 n ∷ row6 b ∷ row7 n b ∷ []) (records b ∷ [])
-unfolding checkAnswer onLines sound decided
+unfolding checkAnswer onLines onRecords decided
 check-cascade n b = exactly (row1 n ∷ row6 b ∷ row7 n b ∷ []) (records b ∷ [])
 
 pub run : (n : ℕ) (b : List ℕ) (p : ℕ) → Exactly (runAnswer n b p) (row1 n ∷ row6 b ∷ row7 n b ∷ row8 n p ∷ []) (ran (gatesOf b) p ∷ [])
-unfolding runAnswer onLines sound decided
+unfolding runAnswer onLines onRecords decided
 run n b p = exactly (row1 n ∷ row6 b ∷ row7 n b ∷ row8 n p ∷ []) (ran (gatesOf b) p ∷ [])
 
 pub tabulate : (n : ℕ) (b : List ℕ) (room : ℕ) → Exactly (tabulateAnswer n b room) (row1 n ∷ row6 b ∷ row7 n b ∷ row5 room (3 ^ n) ∷ []) (3 ^ n ∷ [])
-unfolding tabulateAnswer onLines sound decided
+unfolding tabulateAnswer onLines onRecords decided
 tabulate n b room = exactly (row1 n ∷ row6 b ∷ row7 n b ∷ row5 room (3 ^ n) ∷ []) (3 ^ n ∷ [])
 
 pub tabulate-kept : (n : ℕ) (b room : List ℕ) → Kept (tabulateAnswer n b (length room)) (tabulateRoom n b room) room
@@ -78,7 +78,7 @@ unfolding tabulateRoom
 tabulate-kept n b room = kept (tabulateAnswer n b (length room)) _ room
 
 pub invert : (n : ℕ) (b : List ℕ) (room : ℕ) → Exactly (invertAnswer n b room) (row1 n ∷ row6 b ∷ row7 n b ∷ row5 (room / 8) (records b) ∷ []) (records b ∷ [])
-unfolding invertAnswer onLines sound decided
+unfolding invertAnswer onLines onRecords decided
 invert n b room = exactly (row1 n ∷ row6 b ∷ row7 n b ∷ row5 (room / 8) (records b) ∷ []) (records b ∷ [])
 
 pub invert-kept : (n : ℕ) (b room : List ℕ) → Kept (invertAnswer n b (length room)) (invertRoom n b room) room
@@ -86,12 +86,12 @@ unfolding invertRoom
 invert-kept n b room = kept (invertAnswer n b (length room)) _ room
 
 pub price : (n v : ℕ) (b : List ℕ) → Exactly (priceAnswer n v b) (row1 n ∷ row10 v ∷ row6 b ∷ row7 n b ∷ []) (cascadePrice v (gatesOf b) ∷ [])
-unfolding priceAnswer onLines sound decided
+unfolding priceAnswer onLines onRecords decided
 price n v b = exactly (row1 n ∷ row10 v ∷ row6 b ∷ row7 n b ∷ []) (cascadePrice v (gatesOf b) ∷ [])
 
 pub tidy : (n : ℕ) (b : List ℕ)
     → Exactly (tidyAnswer n b) (row1 n ∷ row6 b ∷ row7 n b ∷ []) (length (tidied (gatesOf b) .left) ∷ tidied (gatesOf b) .steps ∷ [])
-unfolding tidyAnswer onLines sound decided
+unfolding tidyAnswer onLines onRecords decided
 tidy n b = exactly (row1 n ∷ row6 b ∷ row7 n b ∷ []) (length (tidied (gatesOf b) .left) ∷ tidied (gatesOf b) .steps ∷ [])
 
 pub tidy-kept : (n : ℕ) (b : List ℕ) → Kept (tidyAnswer n b) (tidyBuffer n b) b
@@ -102,14 +102,14 @@ tidy-kept n b = kept (tidyAnswer n b) _ b
 pub choose : (n v : ℕ) (b c : List ℕ)
     → Exactly (chooseAnswer n v b c) (row1 n ∷ row10 v ∷ row6 b ∷ row7 n b ∷ row6 c ∷ row7 n c ∷ row11 n (gatesOf b) (gatesOf c) ∷ [])
     (cond (secondWins v (gatesOf b) (gatesOf c)) 2 1 ∷ [])
-unfolding chooseAnswer onLines sound decided
+unfolding chooseAnswer onLines onRecords decided
 choose n v b c =
     exactly (row1 n ∷ row10 v ∷ row6 b ∷ row7 n b ∷ row6 c ∷ row7 n c ∷ row11 n (gatesOf b) (gatesOf c) ∷ [])
     (cond (secondWins v (gatesOf b) (gatesOf c)) 2 1 ∷ [])
 
 pub write-file : (n : ℕ) (b note : List ℕ) (room : ℕ)
     → Exactly (writeAnswer n b note room) (row1 n ∷ row6 b ∷ row7 n b ∷ row9-note note ∷ row5 room (fileSize note b) ∷ []) (fileSize note b ∷ [])
-unfolding writeAnswer onLines sound decided
+unfolding writeAnswer onLines onRecords decided
 write-file n b note room = exactly (row1 n ∷ row6 b ∷ row7 n b ∷ row9-note note ∷ row5 room (fileSize note b) ∷ []) (fileSize note b ∷ [])
 
 pub write-file-kept : (n : ℕ) (b note room : List ℕ) → Kept (writeAnswer n b note (length room)) (writeRoom n b note room) room
@@ -120,7 +120,7 @@ pub read-file : (f : List ℕ) (room noteRoom : ℕ)
     → Exactly (readAnswer f room noteRoom)
     (row9 f ∷ row1 (linesIn f) ∷ row6 (recordsOf f) ∷ row7 (linesIn f) (recordsOf f) ∷ row5 (room / 8) (count f) ∷ row5 noteRoom (startOf f) ∷ [])
     (linesIn f ∷ count f ∷ startOf f ∷ [])
-unfolding readAnswer framed onLines sound decided
+unfolding readAnswer framed onLines onRecords decided
 read-file f room noteRoom =
     exactly (row9 f ∷ row1 (linesIn f) ∷ row6 (recordsOf f) ∷ row7 (linesIn f) (recordsOf f) ∷ row5 (room / 8) (count f) ∷ row5 noteRoom (startOf f) ∷ [])
     (linesIn f ∷ count f ∷ startOf f ∷ [])
@@ -135,7 +135,7 @@ read-note-kept f room noteRoom = kept (readAnswer f (length room) (length noteRo
 
 pub opening : (f : List ℕ)
     → Exactly (openingAnswer f) (row9 f ∷ row1 (linesIn f) ∷ row6 (recordsOf f) ∷ row7 (linesIn f) (recordsOf f) ∷ []) (linesIn f ∷ startOf f ∷ trailerAt f ∷ [])
-unfolding openingAnswer framed onLines sound decided
+unfolding openingAnswer framed onLines onRecords decided
 opening f = exactly (row9 f ∷ row1 (linesIn f) ∷ row6 (recordsOf f) ∷ row7 (linesIn f) (recordsOf f) ∷ []) (linesIn f ∷ startOf f ∷ trailerAt f ∷ [])
 
 -- the values are the gate's where a record stands, and else the end's
@@ -166,7 +166,7 @@ next-kept n f at end k p e = go (givenAt f n at end) e
 
 pub listing : (n : ℕ) (b : List ℕ) (room : ℕ)
     → Exactly (listingAnswer n b room) (row1 n ∷ row6 b ∷ row7 n b ∷ row5 room (length (listingText n (gatesOf b))) ∷ []) (length (listingText n (gatesOf b)) ∷ [])
-unfolding listingAnswer onLines sound decided
+unfolding listingAnswer onLines onRecords decided
 listing n b room = exactly (row1 n ∷ row6 b ∷ row7 n b ∷ row5 room (length (listingText n (gatesOf b))) ∷ []) (length (listingText n (gatesOf b)) ∷ [])
 
 pub listing-kept : (n : ℕ) (b room : List ℕ) → Kept (listingAnswer n b (length room)) (listingRoom n b room) room
@@ -176,7 +176,7 @@ listing-kept n b room = kept (listingAnswer n b (length room)) _ room
 -- the program's refusal line is that of these rows; the call itself refuses a room too small for the text, and nothing else
 pub table-file : (f : List ℕ)
     → Exactly (fileAnswer f) (row1 (linesOf f) ∷ record { applies = not (eqb (length f) (1 + 2 * 3 ^ linesOf f)); number = 2; place = 0 } ∷ row2 (linesOf f) (length (entriesOf f)) ∷ row3 (linesOf f) (entriesOf f) ∷ row4 (entriesOf f) ∷ []) []
-unfolding fileAnswer onLines tabled decided
+unfolding fileAnswer onLines onTable decided
 table-file f = exactly (row1 (linesOf f) ∷ record { applies = not (eqb (length f) (1 + 2 * 3 ^ linesOf f)); number = 2; place = 0 } ∷ row2 (linesOf f) (length (entriesOf f)) ∷ row3 (linesOf f) (entriesOf f) ∷ row4 (entriesOf f) ∷ []) []
 
 pub sheet : (f : List ℕ) (room : ℕ) → Exactly (sheetAnswer f room) (row5 room (length (sheetText f)) ∷ []) (length (sheetText f) ∷ [])

@@ -12,7 +12,7 @@ use Rattle.tables.specs.Permutations.{Permutation}
 use Rattle.cascades.specs.Cascades.{records, gatesOf, ran, Cascade}
 use Rattle.cascades.specs.Prices.{cascadePrice}
 use Rattle.cascades.proofs.Cascades.{whole-cascade}
-use Rattle.cascades.proofs.Answers.{check-whole}
+use Rattle.cascades.proofs.Checks.{check-whole}
 use Rattle.synthesis.specs.Synthesis.{bound, synthesized}
 use Rattle.synthesis.proofs.Synthesis.{synthesized-bound}
 use Rattle.rules.specs.Rules.{fits}
@@ -22,7 +22,7 @@ use Rattle.rules.proofs.Promises.{tidied-keeps, tidied-count, tidied-cost, tidi
 use Rattle.demands.proofs.One.{check-cascade, tidy}
 
 -- at most n 3^n - (3^n - 1) / 2 gates
-pub within-the-bound : (n : ℕ) (t : List ℕ) → linesOk n ≡ true → Permutation 3 n t → length (synthesized n t) ≤ n * 3 ^ n - (3 ^ n - 1) / 2
+pub within-the-bound : (n : ℕ) (t : List ℕ) → linesOk n ≡ true → Permutation (3 ^ n) t → length (synthesized n t) ≤ n * 3 ^ n - (3 ^ n - 1) / 2
 unfolding bound
 within-the-bound n t lines perm = synthesized-bound n t (lines-are n lines .1) perm
 

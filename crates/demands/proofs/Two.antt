@@ -14,8 +14,7 @@ use Rattle.card.specs.Card.{Answer.accepted, linesOk, laid}
 use Rattle.card.proofs.Cards.{lines-are, after-accepted}
 use Rattle.tables.specs.Permutations.{Permutation, inverseTable}
 use Rattle.tables.proofs.Accepts.{accepted-iff}
-use Rattle.cascades.specs.Cascades.{ran, undoing, bytesOf, Cascade}
-use Rattle.cascades.proofs.Cascades.{gateOf}
+use Rattle.cascades.specs.Cascades.{gateIn, ran, undoing, bytesOf, Cascade}
 use Rattle.cascades.proofs.Stored.{laid-gates}
 use Rattle.synthesis.specs.Synthesis.{bound, synthesized, synthesizeAnswer, synthesizeRoom}
 use Rattle.synthesis.proofs.Synthesis.{synthesized-computes, synthesized-inverse, synthesized-cascade, synthesized-bound}
@@ -24,7 +23,7 @@ use Rattle.demands.proofs.One.{check-table, synthesize}
 
 -- a table on 1 to 6 lines is accepted exactly if it is a permutation
 pub accepted-exactly : (n : ℕ) (t : List ℕ) (room : ℕ) → bound n ≤ room / 8
-    → (synthesizeAnswer n t room ≡ accepted (length (synthesized n t) ∷ [])) ↔ ((linesOk n ≡ true) × Permutation 3 n t)
+    → (synthesizeAnswer n t room ≡ accepted (length (synthesized n t) ∷ [])) ↔ ((linesOk n ≡ true) × Permutation (3 ^ n) t)
 unfolding NoneApplies
 accepted-exactly n t room enough = (
   λ e.
@@ -39,9 +38,9 @@ accepted-exactly n t room enough = (
 pub record Worth (n : ℕ) (t : List ℕ) : Type 0 where
   pub cascade : Cascade n (synthesized n t)
   pub computes : (p : ℕ) → p < 3 ^ n → ran (synthesized n t) p ≡ getD t p 0
-  pub computes-back : (q : ℕ) → q < 3 ^ n → ran (undoing (synthesized n t)) q ≡ getD (inverseTable 3 n t) q 0
+  pub computes-back : (q : ℕ) → q < 3 ^ n → ran (undoing (synthesized n t)) q ≡ getD (inverseTable (3 ^ n) t) q 0
 
-pub worth : (n : ℕ) (t : List ℕ) → linesOk n ≡ true → Permutation 3 n t → Worth n t
+pub worth : (n : ℕ) (t : List ℕ) → linesOk n ≡ true → Permutation (3 ^ n) t → Worth n t
 worth n t lines perm =
     let six = lines-are n lines .1 in
     record {
@@ -51,8 +50,8 @@ worth n t lines perm =
     }
 
 -- and the records left in the room are that cascade
-pub in-the-room : (n : ℕ) (t room : List ℕ) → bound n ≤ length room / 8 → linesOk n ≡ true → Permutation 3 n t
-    → span (gateOf (synthesizeRoom n t room)) 0 (length (synthesized n t)) ≡ synthesized n t
+pub in-the-room : (n : ℕ) (t room : List ℕ) → bound n ≤ length room / 8 → linesOk n ≡ true → Permutation (3 ^ n) t
+    → span (gateIn (synthesizeRoom n t room)) 0 (length (synthesized n t)) ≡ synthesized n t
 unfolding synthesizeRoom
 in-the-room n t room enough lines perm =
     let six = lines-are n lines .1 in

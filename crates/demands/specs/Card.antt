@@ -25,7 +25,7 @@ row2 n len = record { applies = not (eqb len (3 ^ n)); number = 2; place = 0 }
 
 -- an entry is 3^n or more: the first such entry
 abbrev pub row3 : ℕ → List ℕ → Row
-row3 n t = record { applies = ltb (firstLarge n t) (length t); number = 3; place = firstLarge n t }
+row3 n t = record { applies = ltb (firstLarge (3 ^ n) t) (length t); number = 3; place = firstLarge (3 ^ n) t }
 
 -- an entry equals an earlier one: the first such entry
 abbrev pub row4 : List ℕ → Row
@@ -41,7 +41,7 @@ row6 b = record { applies = not (lengthOk (length b)); number = 6; place = 0 }
 
 -- a record isn't a gate on n lines: the first such gate
 abbrev pub row7 : ℕ → List ℕ → Row
-row7 n b = record { applies = ltb (firstBad n b) (records b); number = 7; place = firstBad n b }
+row7 n b = record { applies = ltb (firstBad isRecord n b) (records b); number = 7; place = firstBad isRecord n b }
 
 -- the record where a reader stands isn't one: its byte offset
 abbrev pub row7-next : ℕ → List ℕ → ℕ → ℕ → Row

@@ -11,12 +11,13 @@ use borrow.Author.Tests.{ltb-false, not-false}
 use Rattle.card.specs.Card.{Answer, Answer.accepted, Answer.refused, refusing, onLines}
 use Rattle.card.proofs.Cards.{lines-are}
 use Rattle.tables.specs.Permutations.{Permutation}
-use Rattle.tables.specs.Tables.{tabled}
-use Rattle.tables.proofs.Accepts.{Refuses, tabled-is, tabled-permutation}
+use Rattle.tables.specs.Tables.{onTable}
+use Rattle.tables.proofs.Accepts.{Refuses, on-table-is, on-table-permutation}
+use Rattle.gates.specs.Records.{isRecord}
 use Rattle.cascades.specs.Cascades.{records, gatesOf}
-use Rattle.cascades.specs.Answers.{sound, invertAnswer}
+use Rattle.cascades.specs.Answers.{onRecords, onCascade, invertAnswer}
 use Rattle.cascades.proofs.Cascades.{gates-count, whole-cascade}
-use Rattle.cascades.proofs.Sounds.{sound-whole}
+use Rattle.cascades.proofs.Answers.{behind-whole}
 use Rattle.tabulating.specs.Tabulating.{tabulateAnswer}
 use Rattle.synthesis.specs.Synthesis.{synthesized, bound, synthesizeAnswer}
 use Rattle.synthesis.proofs.Synthesis.{synthesized-bound}
@@ -34,8 +35,8 @@ passed-on true k p x vs e = never k p vs e
 passed-on false k p x vs e = (refl, e)
 
 -- by 1, 6 and 7 of a cascade
-beyond : (n : ℕ) (b : List ℕ) (x : Answer) (vs : List ℕ) → accepted vs ≡ onLines n (sound n b x) → accepted vs ≡ x
-unfolding onLines sound
+beyond : (n : ℕ) (b : List ℕ) (x : Answer) (vs : List ℕ) → accepted vs ≡ onLines n (onCascade n b x) → accepted vs ≡ x
+unfolding onLines onRecords
 beyond n b x vs e = passed-on _ 7 _ _ vs (passed-on _ 6 _ _ vs (passed-on _ 1 _ _ vs e .1) .1) .1
 
 -- refusal 5 is given where the room is less than asked
@@ -65,21 +66,21 @@ unfolding tidyAnswer
 left-fits n b left steps e =
     let a : accepted (left ∷ steps ∷ []) ≡ accepted (length (tidied (gatesOf b) .left) ∷ tidied (gatesOf b) .steps ∷ []) = beyond n b _ (left ∷ steps ∷ []) e in
     let s : left ≡ length (tidied (gatesOf b) .left) = cc in
-    let ok = whole-cascade n b _ (sound-whole n b _ _ (sym e)) in
+    let ok = whole-cascade n b _ (behind-whole isRecord n b _ _ (sym e)) in
     omega (arith, s, tidied-count n (gatesOf b) ok, gates-count b)
 
 -- passed on by 2, 3 and 4, the table is a permutation
-tabled-on : (n : ℕ) (t : List ℕ) (x : Answer) (vs : List ℕ) → accepted vs ≡ tabled n t x → Permutation 3 n t × (accepted vs ≡ x)
-tabled-on n t x vs e = go (tabled-is n t)
+on-table-on : (n : ℕ) (t : List ℕ) (x : Answer) (vs : List ℕ) → accepted vs ≡ onTable (3 ^ n) t x → Permutation (3 ^ n) t × (accepted vs ≡ x)
+on-table-on n t x vs e = go (on-table-is (3 ^ n) t)
   where
-    go : Permutation 3 n t ⊎ Refuses n t → Permutation 3 n t × (accepted vs ≡ x)
-    go (_⊎_.inl perm) = (perm, e ∙ tabled-permutation n t perm x)
+    go : Permutation (3 ^ n) t ⊎ Refuses (3 ^ n) t → Permutation (3 ^ n) t × (accepted vs ≡ x)
+    go (_⊎_.inl perm) = (perm, e ∙ on-table-permutation (3 ^ n) t perm x)
     go (_⊎_.inr r) = never (r .number) (r .place) vs (e ∙ r .always x)
 
 pub cascade-fits : (n : ℕ) (t : List ℕ) (room m : ℕ) → accepted (m ∷ []) ≡ synthesizeAnswer n t room → 8 * m ≤ room
 unfolding synthesizeAnswer onLines
 cascade-fits n t room m e =
     let o = passed-on _ 1 0 _ (m ∷ []) e in
-    let p = tabled-on n t _ (m ∷ []) (o .1) in
+    let p = on-table-on n t _ (m ∷ []) (o .1) in
     let r = roomy (room / 8) (bound n) (length (synthesized n t)) m (p .1) in
     omega (arith, r .0, r .1, synthesized-bound n t (lines-are n (not-false _ (o .0)) .1) (p .0))

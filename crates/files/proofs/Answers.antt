@@ -9,9 +9,11 @@ use lib.ListN.{length, take, drop}
 use borrow.Author.Tests.{lt-ltb, le-ltb, ltb-true, ltb-false}
 use Rattle.card.specs.Card.{Answer, Answer.accepted, Answer.refused, onLines, laid}
 use Rattle.card.proofs.Cards.{refusing-yes, refusing-no, refused-both, accepted-both}
-use Rattle.cascades.specs.Cascades.{records, Whole}
-use Rattle.cascades.specs.Answers.{sound, checkAnswer}
-use Rattle.cascades.proofs.Answers.{passed, check-whole, check-refused}
+use Rattle.cascades.specs.Cascades.{records}
+use Rattle.cascades.specs.Inner.Checked.{Whole}
+use Rattle.cascades.specs.Answers.{onCascade, checkAnswer}
+use Rattle.cascades.proofs.Checks.{passed}
+use Rattle.cascades.proofs.Checks.{check-whole, check-refused}
 use Rattle.files.specs.Files.{trailerAt, count, linesIn, startOf, noteOf, recordsOf, frameOk, framed, fileSize, writeAnswer, readAnswer, readRecords, readNote}
 use Rattle.files.specs.Readers.{openingAnswer}
 use Rattle.files.proofs.Frames.{Right, right, frame-right, records-part, records-count}
@@ -21,7 +23,7 @@ module _ (f : List ℕ) where
   unfolding framed
   framed-not e x = refusing-yes (not (frameOk f)) 9 0 _ (ap not e)
 
-  pub framed-on : frameOk f ≡ true → (x : Answer) → framed f x ≡ onLines (linesIn f) (sound (linesIn f) (recordsOf f) x)
+  pub framed-on : frameOk f ≡ true → (x : Answer) → framed f x ≡ onLines (linesIn f) (onCascade (linesIn f) (recordsOf f) x)
   unfolding framed
   framed-on e x = refusing-no (not (frameOk f)) 9 0 _ (ap not e)
 
@@ -56,7 +58,7 @@ module _ (f : List ℕ) where
 
   -- opening goes over the records between the first of them and the trailer
   pub opening-is : (n at end : ℕ) → frameOk f ≡ true → n ≡ linesIn f → at ≡ startOf f → end ≡ trailerAt f
-      → onLines n (sound n (take (end - at) (drop at f)) (accepted (n ∷ at ∷ end ∷ []))) ≡ openingAnswer f
+      → onLines n (onCascade n (take (end - at) (drop at f)) (accepted (n ∷ at ∷ end ∷ []))) ≡ openingAnswer f
   unfolding openingAnswer
   opening-is n at end ok e s t = rw (e, s, t, records-part f (right f ok)) (sym (framed-on ok _))
 

@@ -14,7 +14,8 @@ use borrow.Author.Tests.{leb-true, le-leb, eqb-true, eq-eqb}
 use Rattle.ranges.proofs.Bools.{and-left, and-right, decide}
 use Rattle.ranges.proofs.Stores.{sets-append}
 use Rattle.digits.specs.Digits.{digit}
-use Rattle.cascades.specs.Cascades.{records, Whole}
+use Rattle.cascades.specs.Cascades.{records}
+use Rattle.cascades.specs.Inner.Checked.{Whole}
 use Rattle.files.specs.Files.{littleEndian, trailer, fileOf, fileSize, trailerAt, distance, count, linesIn, edition, startOf, noteOf, recordsOf, frameOk}
 use Rattle.files.proofs.Numbers.{Bytes, length-little, little-at, number-is, bytes-again}
 

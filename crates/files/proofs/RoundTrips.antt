@@ -8,7 +8,8 @@ use lib.ListN.{length, take, drop}
 use lib.Seq.{take-at}
 use Rattle.card.specs.Card.{Answer, Answer.accepted, after, laid}
 use Rattle.card.proofs.Cards.{accepted-both}
-use Rattle.cascades.specs.Cascades.{records, Whole}
+use Rattle.cascades.specs.Cascades.{records}
+use Rattle.cascades.specs.Inner.Checked.{Whole}
 use Rattle.files.specs.Files.{fileOf, fileSize, writeAnswer, writeRoom, count, linesIn, startOf, noteOf, recordsOf, readAnswer, readRecords, readNote}
 use Rattle.files.proofs.Numbers.{Bytes}
 use Rattle.files.proofs.Frames.{Right, length-file, file-lines, file-count, file-start, file-note, file-records, file-right, file-again, length-note, length-records, records-count, parts-end, trailer-fits}

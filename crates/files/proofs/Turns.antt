@@ -15,10 +15,11 @@ use Rattle.ranges.proofs.Bools.{and-right, and-both}
 use Rattle.ranges.proofs.Tests.{every-ext}
 use Rattle.card.specs.Card.{linesOk, Answer.accepted}
 use Rattle.gates.specs.declared.Record.{Record}
-use Rattle.gates.specs.Records.{lineOk, linesOkAt, isRecord, gateAt, decoded}
+use Rattle.gates.specs.Records.{lineOk, linesOkAt, isRecord, gateAt}
+use Rattle.gates.specs.Inner.Decoding.{decoded}
 use Rattle.gates.proofs.Records.{reads, record-lines, gate-ext, decoded-is, gives, gives-no}
-use Rattle.cascades.specs.Cascades.{gatesOf, Whole}
-use Rattle.cascades.proofs.Cascades.{gateOf}
+use Rattle.cascades.specs.Cascades.{gateIn, gatesOf}
+use Rattle.cascades.specs.Inner.Checked.{Whole}
 use Rattle.files.specs.declared.Given.{Given}
 use Rattle.files.specs.Files.{trailerAt, distance, count, linesIn, startOf, recordsOf}
 use Rattle.files.specs.Readers.{openingAnswer, recordStands, asGiven, givenAt, placeAfter, turnAt, handed}
@@ -83,7 +84,7 @@ module _ (f : List ℕ) (r : Right f) (w : Whole (linesIn f) (recordsOf f) (coun
   fits i li = omega (arith, parts-end f r, r .eight)
 
   -- the turn at record i
-  turn-at : (i : ℕ) → i < count f → turnAt f (linesIn f) (startOf f + 8 * i) (trailerAt f) ≡ record { given = asGiven (gateOf (recordsOf f) i); at = startOf f + 8 * (i + 1) }
+  turn-at : (i : ℕ) → i < count f → turnAt f (linesIn f) (startOf f + 8 * i) (trailerAt f) ≡ record { given = asGiven (gateIn (recordsOf f) i); at = startOf f + 8 * (i + 1) }
   unfolding recordStands
   turn-at i li =
       let inside : startOf f + 8 * i + 8 ≤ length f = omega (arith, fits i li, trailer-fits f r) in
@@ -105,13 +106,13 @@ module _ (f : List ℕ) (r : Right f) (w : Whole (linesIn f) (recordsOf f) (coun
   end-stays (suc k) = rw (turn-last, end-stays k)
 
   hands-on : (m i k : ℕ) → i + m ≡ count f
-      → handed f (linesIn f) (startOf f + 8 * i) (trailerAt f) (m + k) ≡ map asGiven (span (gateOf (recordsOf f)) i m) ++ replicate k Given.End
+      → handed f (linesIn f) (startOf f + 8 * i) (trailerAt f) (m + k) ≡ map asGiven (span (gateIn (recordsOf f)) i m) ++ replicate k Given.End
   unfolding handed span
   hands-on zero i k e =
       let last : startOf f + 8 * i ≡ trailerAt f = omega (arith, parts-end f r, r .eight) in
       rw (zero-add k, last) (end-stays k)
   hands-on (suc m) i k e =
-      rw (suc-add m k, turn-at i (omega arith)) (ap (λ (l : List Given). asGiven (gateOf (recordsOf f) i) ∷ l) (hands-on m (i + 1) k (omega arith)))
+      rw (suc-add m k, turn-at i (omega arith)) (ap (λ (l : List Given). asGiven (gateIn (recordsOf f) i) ∷ l) (hands-on m (i + 1) k (omega arith)))
 
 -- over a file that opens: its gates, and then the end
 pub reader-gates : (f : List ℕ) (n at end : ℕ) → openingAnswer f ≡ accepted (n ∷ at ∷ end ∷ []) → (k : ℕ)

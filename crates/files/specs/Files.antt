@@ -8,7 +8,7 @@ use Rattle.ranges.specs.Ranges.{span}
 use Rattle.digits.specs.Digits.{digit, pack}
 use Rattle.card.specs.Card.{Answer, Answer.accepted, Answer.refused, refusing, onLines, after, laid}
 use Rattle.cascades.specs.Cascades.{records}
-use Rattle.cascades.specs.Answers.{sound}
+use Rattle.cascades.specs.Answers.{onCascade}
 use Rattle.files.specs.declared.Written.{Written}
 use Rattle.files.specs.declared.ReadBack.{ReadBack}
 
@@ -47,7 +47,7 @@ fileSize note b = length note + length b + 8
 -- 1 6 7, 9 for the note, 5: a room of so many bytes
 unfoldable pub writeAnswer : ℕ → List ℕ → List ℕ → ℕ → Answer
 writeAnswer n b note room =
-    onLines n (sound n b (refusing (ltb 1024 (length note)) 9 0 (refusing (ltb room (fileSize note b)) 5 (fileSize note b) (accepted (fileSize note b ∷ [])))))
+    onLines n (onCascade n b (refusing (ltb 1024 (length note)) 9 0 (refusing (ltb room (fileSize note b)) 5 (fileSize note b) (accepted (fileSize note b ∷ [])))))
 
 unfoldable pub writeRoom : ℕ → List ℕ → List ℕ → List ℕ → List ℕ
 writeRoom n b note room = after (writeAnswer n b note (length room)) (laid (fileOf n note b) room) room
@@ -91,7 +91,7 @@ frameOk f =
 
 -- 9 1 6 7 of the file f, and else the answer x
 unfoldable pub framed : List ℕ → Answer → Answer
-framed f x = refusing (not (frameOk f)) 9 0 (onLines (linesIn f) (sound (linesIn f) (recordsOf f) x))
+framed f x = refusing (not (frameOk f)) 9 0 (onLines (linesIn f) (onCascade (linesIn f) (recordsOf f) x))
 
 -- 9 1 6 7, 5 for the records' room, 5 for the note's: rooms of so many bytes
 unfoldable pub readAnswer : List ℕ → ℕ → ℕ → Answer

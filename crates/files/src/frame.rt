@@ -4,7 +4,7 @@ ghost use mathlib.Core.List.{_∷_, []};
 ghost use Prim.Native.Nat.{_+_, _^_, _≤_, _<_};
 ghost use lib.ListN.{length};
 ghost use Rattle.card.specs.Card.{onLines, Answer.accepted};
-ghost use Rattle.cascades.specs.Answers.{sound};
+ghost use Rattle.cascades.specs.Answers.{onCascade};
 ghost use Rattle.files.specs.Files.{numberAt, frameOk};
 ghost use Rattle.files.specs.Readers.{openingAs, recordStands};
 use crate::Extent;
@@ -50,7 +50,7 @@ pub fn frame_ok(file: &[u8]) -> bool
 
 // The records between two places of a file are gates: refusals 1, 6, 7.
 pub fn gates_between(lines: u8, records: &[u8], at: usize, end: usize) -> Extent
-    ensures { λ r. ⌜ openingAs r ≡ onLines lines (sound lines (now (records .entry)) (accepted (lines ∷ at ∷ end ∷ []))) ⌝ }
+    ensures { λ r. ⌜ openingAs r ≡ onLines lines (onCascade lines (now (records .entry)) (accepted (lines ∷ at ∷ end ∷ []))) ⌝ }
 {
     if !card::lines_ok(lines) {
         return Extent::Refused {

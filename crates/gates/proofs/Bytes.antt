@@ -20,12 +20,13 @@ use Rattle.digits.proofs.Digits.{digit-zero, digit-suc, digit-lt, digit-low, di
 use Rattle.digits.proofs.Packs.{pack-ext}
 use Rattle.digits.proofs.Bits.{digit-and}
 use Rattle.gates.specs.Gates.{inverseOp}
-use Rattle.gates.specs.Records.{lineOk, linesOkAt, packedAt, isRecord, gateAt, asRecord, decoded}
+use Rattle.gates.specs.Records.{lineOk, linesOkAt, packedAt, isRecord, gateAt}
+use Rattle.gates.specs.Inner.Decoding.{asRecord, decoded}
 use Rattle.gates.specs.declared.Record.{Record}
 use Rattle.card.specs.Card.{linesOk}
 use Rattle.gates.proofs.Operators.{inverse-bits}
 use Rattle.gates.proofs.Records.{reads, line-lt}
-use Rattle.gates.specs.Words.{byte, Word, bytesIn, linesOkIn, isWord, gateOf, bare, Low}
+use Rattle.gates.specs.Inner.Words.{byte, Word, bytesIn, linesOkIn, isWord, gateOf, bare, LowControls}
 
 -- ---- what is computed
 
@@ -283,7 +284,7 @@ three-bytes j w q e =
     let three : q % 16777216 ≡ byte 0 q + 256 * byte 1 q + 65536 * byte 2 q = unfold digit in omega arith in
     three ∙ rw (shift-digits 256 j 0 w q e, shift-digits 256 j 1 w q e, shift-digits 256 j 2 w q e)
 
-pub packed-bytes : (w : ℕ) → Low w → w < 256 ^ 8
+pub packed-bytes : (w : ℕ) → LowControls w → w < 256 ^ 8
     → 4161 * (w / 65536 % 16777216) / 4096 % 64 + 64 * (4161 * (w / 1099511627776) / 4096 % 64) ≡ pack 4 (λ k. byte (2 + k) w) 6
 unfolding pack sum
 packed-bytes w low lt =
@@ -315,7 +316,7 @@ module _ (n w : ℕ) where
   word-lines low high on = rw (digit-zero, byte-one, le-leb 1 (w % 256) low, le-leb (w % 256) 5 high, lt-ltb (w / 256 % 256) n on)
 
   -- a gate's control bytes are below 4
-  pub word-low : isWord n w ≡ true → Low w
+  pub word-low : isWord n w ≡ true → LowControls w
   unfolding isWord linesOkIn
   word-low e =
       let t : ℕ = byte 1 w in

@@ -18,7 +18,7 @@ use Rattle.digits.proofs.Bits.{digit-and, digit-xor, digit-of-zero}
 use Rattle.digits.proofs.Sizes.{three-pos}
 use Rattle.gates.specs.declared.Gate.{Gate}
 use Rattle.gates.specs.Gates.{act, holds, firesOn, applied}
-use Rattle.gates.specs.Quads.{quad, Held}
+use Rattle.gates.specs.Inner.Quads.{quad, Held}
 use Rattle.gates.proofs.Operators.{act-lt}
 use Rattle.gates.proofs.Gates.{applied-yes, applied-no}
 use Rattle.gates.proofs.Bytes.{same, digits-agree}
@@ -123,7 +123,7 @@ missed-digit c q k lt =
     rw (a, x, y, ones-digit k lt .1, triple-digit k (noneIn c) few, none-digit c k lt, digit-of-zero 4 k (omega arith))
     (hold-value (digit 4 k c) (digit 4 k q) (digit-lt 4 k c (omega arith)) (digit-lt 4 k q (omega arith)))
 
-fires-quad : (c p : ℕ) → c < 4 ^ 6 → eqb (missed c (quad p)) 0 ≡ firesOn c p
+fires-quad : (c p : ℕ) → c < 4 ^ 6 → eqb (missed c (quad p)) 0 ≡ firesOn 3 c p
 unfolding firesOn
 fires-quad c p lt =
     digits-agree 4 6 (missed c (quad p)) 0 (λ k. holds (digit 4 k c) (digit 4 k (quad p))) (omega arith)

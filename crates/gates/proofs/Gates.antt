@@ -9,57 +9,80 @@ use Rattle.ranges.proofs.Tests.{every-ext}
 use Rattle.digits.specs.Digits.{digit, put}
 use Rattle.digits.proofs.Digits.{digit-lt, digit-put-same, digit-put-other, put-put, put-same, put-lt}
 use Rattle.gates.specs.declared.Gate.{Gate}
-use Rattle.gates.specs.Gates.{act, holds, firesOn, fires, applied, inverse, IsGate}
+use Rattle.gates.specs.Gates.{act, inverseOp, control, holds, firesOn, changed, applied, inverse, IsGate}
+use Rattle.gates.specs.Inner.Firing.{fires}
 use Rattle.gates.proofs.Operators.{act-lt, act-inverse, inverse-is-op, inverse-twice}
-
-pub applied-yes : (g : Gate) (p : ℕ) → fires g p ≡ true → applied g p ≡ put 3 (g .target) p (act (g .operator) (digit 3 (g .target) p))
-unfolding applied
-applied-yes g p e = rw e
-
-pub applied-no : (g : Gate) (p : ℕ) → fires g p ≡ false → applied g p ≡ p
-unfolding applied
-applied-no g p e = rw e
 
 cond-lt : (b : Bool) {x y n : ℕ} → x < n → y < n → cond b x y < n
 cond-lt true lx ly = lx
 cond-lt false lx ly = ly
 
--- a gate on n lines keeps patterns of n lines
-pub applied-lt : (n : ℕ) (g : Gate) (p : ℕ) → g .target < n → p < 3 ^ n → applied g p < 3 ^ n
-unfolding applied
-applied-lt n g p lt lp = cond-lt (fires g p) (put-lt 3 n (g .target) p _ lp lt (act-lt (g .operator) (digit 3 (g .target) p))) lp
+-- ---- in radix r, where the target's digit becomes what f makes of it
+
+module _ (r : ℕ) (f : ℕ → ℕ) (g : Gate) (p : ℕ) where
+  pub changed-yes : firesOn r (g .controls) p ≡ true → changed r f g p ≡ put r (g .target) p (f (digit r (g .target) p))
+  unfolding changed
+  changed-yes e = rw e
+
+  pub changed-no : firesOn r (g .controls) p ≡ false → changed r f g p ≡ p
+  unfolding changed
+  changed-no e = rw e
+
+  -- a gate on n lines keeps patterns of n lines
+  pub changed-lt : (n : ℕ) → g .target < n → ((x : ℕ) → f x < r) → p < r ^ n → changed r f g p < r ^ n
+  unfolding changed
+  changed-lt n lt low lp = cond-lt (firesOn r (g .controls) p) (put-lt r n (g .target) p _ lp lt (low (digit r (g .target) p))) lp
 
 -- a digit whose control takes the old and the new value alike does not matter
-pub fires-put : (c p t d : ℕ) → d < 3 → holds (digit 4 t c) d ≡ holds (digit 4 t c) (digit 3 t p) → firesOn c (put 3 t p d) ≡ firesOn c p
+pub fires-put : (r c p t d : ℕ) → d < r → holds (digit 4 t c) d ≡ holds (digit 4 t c) (digit r t p) → firesOn r c (put r t p d) ≡ firesOn r c p
 unfolding firesOn
-fires-put c p t d ld e = every-ext _ _ 0 6 (λ k le lt. at k (ℕ-discrete k t))
+fires-put r c p t d ld e = every-ext _ _ 0 6 (λ k le lt. at k (ℕ-discrete k t))
   where
-    at : (k : ℕ) → Dec (k ≡ t) → holds (digit 4 k c) (digit 3 k (put 3 t p d)) ≡ holds (digit 4 k c) (digit 3 k p)
-    at k (yes q) = rw (q, digit-put-same 3 t p d ld) e
-    at k (no ne) = rw (digit-put-other 3 k t p d ld ne)
+    at : (k : ℕ) → Dec (k ≡ t) → holds (digit 4 k c) (digit r k (put r t p d)) ≡ holds (digit 4 k c) (digit r k p)
+    at k (yes q) = rw (q, digit-put-same r t p d ld) e
+    at k (no ne) = rw (digit-put-other r k t p d ld ne)
 
 -- a line without a control takes any value
 pub holds-none : (x : ℕ) → holds 3 x ≡ true
 unfolding holds
 holds-none x = refl
 
-pub fires-put-free : (c p t d : ℕ) → d < 3 → digit 4 t c ≡ 3 → firesOn c (put 3 t p d) ≡ firesOn c p
-fires-put-free c p t d ld free = fires-put c p t d ld (rw (free, holds-none d, holds-none (digit 3 t p)))
+pub fires-put-free : (r c p t d : ℕ) → d < r → digit 4 t c ≡ 3 → firesOn r c (put r t p d) ≡ firesOn r c p
+fires-put-free r c p t d ld free = fires-put r c p t d ld (rw (free, holds-none d, holds-none (digit r t p)))
+
+-- what takes f back takes the gate back
+pub changed-back : (r : ℕ) (f b : ℕ → ℕ) (g : Gate) (p : ℕ) → 0 < r → control g (g .target) ≡ 3 → ((x : ℕ) → f x < r) → ((x : ℕ) → x < r → b (f x) ≡ x)
+    → changed r b g (changed r f g p) ≡ p
+changed-back r f b g p pos own low back = go (firesOn r (g .controls) p) refl
+  where
+    go : (t : Bool) → firesOn r (g .controls) p ≡ t → changed r b g (changed r f g p) ≡ p
+    go true e =
+        let ly : f (digit r (g .target) p) < r = low (digit r (g .target) p) in
+        rw (changed-yes r f g p e)
+        (changed-yes r b g (put r (g .target) p (f (digit r (g .target) p))) (fires-put-free r (g .controls) p (g .target) _ ly own ∙ e)
+        ∙ rw (digit-put-same r (g .target) p _ ly, put-put r (g .target) p _ _ ly, back (digit r (g .target) p) (digit-lt r (g .target) p pos)) (put-same r (g .target) p))
+    go false e = rw (changed-no r f g p e) (changed-no r b g p e)
+
+-- ---- ternary
+
+pub applied-yes : (g : Gate) (p : ℕ) → fires g p ≡ true → applied g p ≡ put 3 (g .target) p (act (g .operator) (digit 3 (g .target) p))
+unfolding applied
+applied-yes g p = changed-yes 3 (act (g .operator)) g p
+
+pub applied-no : (g : Gate) (p : ℕ) → fires g p ≡ false → applied g p ≡ p
+unfolding applied
+applied-no g p = changed-no 3 (act (g .operator)) g p
+
+pub applied-lt : (n : ℕ) (g : Gate) (p : ℕ) → g .target < n → p < 3 ^ n → applied g p < 3 ^ n
+unfolding applied
+applied-lt n g p lt = changed-lt 3 (act (g .operator)) g p n lt (act-lt (g .operator))
 
 -- the inverse of a gate takes it back
 pub applied-inverse : (n : ℕ) (g : Gate) (p : ℕ) → IsGate n g → applied (inverse g) (applied g p) ≡ p
-unfolding inverse
-applied-inverse n g p ok = go (fires g p) refl
-  where
-    go : (b : Bool) → fires g p ≡ b → applied (inverse g) (applied g p) ≡ p
-    go true e =
-        let ly : act (g .operator) (digit 3 (g .target) p) < 3 = act-lt (g .operator) (digit 3 (g .target) p) in
-        let f : fires g (put 3 (g .target) p (act (g .operator) (digit 3 (g .target) p))) ≡ true = fires-put-free (g .controls) p (g .target) _ ly (ok .own) ∙ e in
-        rw (applied-yes g p e)
-        (applied-yes (inverse g) (put 3 (g .target) p (act (g .operator) (digit 3 (g .target) p))) f
-        ∙ rw (digit-put-same 3 (g .target) p _ ly, put-put 3 (g .target) p _ _ ly, act-inverse (g .operator) (digit 3 (g .target) p) (ok .op-low) (ok .op-high) (digit-lt 3 (g .target) p (omega arith)))
-        (put-same 3 (g .target) p))
-    go false e = rw (applied-no g p e) (applied-no (inverse g) p e)
+unfolding applied inverse changed
+applied-inverse n g p ok =
+    changed-back 3 (act (g .operator)) (act (inverseOp (g .operator))) g p (omega arith) (ok .own) (act-lt (g .operator))
+    (λ x lt. act-inverse (g .operator) x (ok .op-low) (ok .op-high) lt)
 
 pub inverse-gate : (n : ℕ) (g : Gate) → IsGate n g → IsGate n (inverse g)
 unfolding inverse

@@ -15,7 +15,7 @@ use Rattle.digits.proofs.Digits.{digits-equal}
 use Rattle.digits.proofs.Packs.{pack-lt, pack-ext, digit-pack}
 use Rattle.digits.proofs.Bits.{digit-and, digit-or, digit-xor, byte-half, bytes-sum}
 use Rattle.gates.specs.Gates.{control}
-use Rattle.gates.specs.Words.{byte, gateOf, Low, controlMarks, otherMarks}
+use Rattle.gates.specs.Inner.Words.{byte, gateOf, LowControls, controlMarks, otherMarks}
 use Rattle.gates.proofs.Bytes.{same, byte-high}
 
 -- ---- marks
@@ -68,7 +68,7 @@ unfolding otherMarks controlMarks
 controls-marked w =
     pack-ext 256 (λ k. cond (eqb (byte (2 + k) w) (byte k 3311470314243)) 0 1) (λ k. cond (eqb (byte (2 + k) w) 3) 0 1) 6 (λ k lt. rw (threes-byte k lt))
 
-module _ (w : ℕ) (low : Low w) (d : ℕ) (small : (k : ℕ) → k < 6 → byte k d < 4) where
+module _ (w : ℕ) (low : LowControls w) (d : ℕ) (small : (k : ℕ) → k < 6 → byte k d < 4) where
   others-xor : (k : ℕ) → byte k (bitXor d (w / 65536)) ≡ bitXor (byte k d) (byte (2 + k) w)
   others-xor k =
       let x : digit 256 k (bitXor d (w / 65536)) ≡ bitXor (byte k d) (byte k (w / 65536)) = digit-xor 8 k d (w / 65536) in
@@ -104,6 +104,6 @@ marks-counted w =
     one-most false = omega arith
 
 -- the gate's control on line k is its byte
-pub control-word : (w : ℕ) → Low w → (k : ℕ) → k < 6 → control (gateOf w) k ≡ byte (2 + k) w
+pub control-word : (w : ℕ) → LowControls w → (k : ℕ) → k < 6 → control (gateOf w) k ≡ byte (2 + k) w
 unfolding gateOf
 control-word w low k lt = digit-pack 4 (λ k. byte (2 + k) w) 6 (low .each) k lt

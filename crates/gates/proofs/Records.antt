@@ -23,7 +23,8 @@ use Rattle.card.proofs.Cards.{lines-are}
 use Rattle.gates.specs.declared.Gate.{Gate}
 use Rattle.gates.specs.declared.Record.{Record}
 use Rattle.gates.specs.Gates.{control, IsGate}
-use Rattle.gates.specs.Records.{lineOk, linesOkAt, packedAt, isRecord, gateAt, recordOf, asRecord, decoded}
+use Rattle.gates.specs.Records.{lineOk, linesOkAt, packedAt, isRecord, gateAt, recordOf}
+use Rattle.gates.specs.Inner.Decoding.{asRecord, decoded}
 
 -- ---- one control byte
 

@@ -24,16 +24,17 @@ control g k = digit 4 k (g .controls)
 unfoldable pub holds : ℕ → ℕ → Bool
 holds c x = eqb c 3 || eqb c x
 
--- every control line of a pattern holds its value
-unfoldable pub firesOn : ℕ → ℕ → Bool
-firesOn controls p = every (λ k. holds (digit 4 k controls) (digit 3 k p)) 0 6
+-- every control line of a pattern in radix r holds its value
+unfoldable pub firesOn : ℕ → ℕ → ℕ → Bool
+firesOn r controls p = every (λ k. holds (digit 4 k controls) (digit r k p)) 0 6
 
-abbrev pub fires : Gate → ℕ → Bool
-fires g p = firesOn (g .controls) p
+-- the pattern after a gate: where it fires, the digit of its target becomes what f makes of it
+unfoldable pub changed : ℕ → (ℕ → ℕ) → Gate → ℕ → ℕ
+changed r f g p = cond (firesOn r (g .controls) p) (put r (g .target) p (f (digit r (g .target) p))) p
 
--- the pattern after the gate
+-- a ternary pattern after the gate
 unfoldable pub applied : Gate → ℕ → ℕ
-applied g p = cond (fires g p) (put 3 (g .target) p (act (g .operator) (digit 3 (g .target) p))) p
+applied g p = changed 3 (act (g .operator)) g p
 
 unfoldable pub inverse : Gate → Gate
 inverse g = record { operator = inverseOp (g .operator); target = g .target; controls = g .controls }

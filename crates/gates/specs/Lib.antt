@@ -1,4 +1,3 @@
 pub mod Gates
 pub mod Records
-pub mod Words
-pub mod Quads
+pub mod Inner

@@ -6,10 +6,8 @@ use lib.Dec.{eqb, leb, ltb}
 use lib.ListN.{length, getD}
 use Rattle.ranges.specs.Ranges.{every}
 use Rattle.digits.specs.Digits.{pack}
-use Rattle.card.specs.Card.{linesOk}
 use Rattle.gates.specs.Gates.{control}
 use Rattle.gates.specs.declared.Gate.{Gate}
-use Rattle.gates.specs.declared.Record.{Record}
 
 -- the byte c of line k, for a gate on n lines with target t: 3 on the target and from line n up, else 0 to 3
 unfoldable pub lineOk : ℕ → ℕ → ℕ → ℕ → Bool
@@ -38,11 +36,3 @@ gateAt b at = record { operator = getD b at 0; target = getD b (at + 1) 0; contr
 -- the 8 bytes of a gate
 unfoldable pub recordOf : Gate → List ℕ
 recordOf g = g .operator ∷ g .target ∷ control g 0 ∷ control g 1 ∷ control g 2 ∷ control g 3 ∷ control g 4 ∷ control g 5 ∷ []
-
--- a gate as the answer of decoding
-abbrev pub asRecord : Gate → Record
-asRecord g = Record.Gate (g .operator) (g .target) (g .controls)
-
--- the record at place at: 1 where the lines are not 1 to 6, 7 at that place where it is no gate on n lines, else the gate
-unfoldable pub decoded : ℕ → List ℕ → ℕ → Record
-decoded n b at = cond (linesOk n) (cond (isRecord n b at) (asRecord (gateAt b at)) (Record.Refused 7 at)) (Record.Refused 1 0)

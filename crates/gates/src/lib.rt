@@ -5,7 +5,8 @@ ghost use lib.Dec.{leb};
 ghost use lib.ListN.{length};
 ghost use lib.Seq.{sets};
 ghost use Rattle.gates.specs.Gates.{act, inverseOp};
-ghost use Rattle.gates.specs.Records.{decoded, recordOf};
+ghost use Rattle.gates.specs.Records.{recordOf};
+ghost use Rattle.gates.specs.Inner.Decoding.{decoded};
 
 pub mod controls;
 pub mod quads;

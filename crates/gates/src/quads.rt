@@ -2,7 +2,7 @@
 ghost use mathlib.Core.Path.{_≡_};
 ghost use Prim.Native.Nat.{ℕ, _<_, _^_};
 ghost use Rattle.gates.specs.Gates.{applied};
-ghost use Rattle.gates.specs.Quads.{quad, Held};
+ghost use Rattle.gates.specs.Inner.Quads.{quad, Held};
 use super::controls;
 
 // The quad of a pattern. Digit k is p / 3^k - 3 * (p / 3^(k + 1)), so in base 4 the quotient p / 3^k counts 4^k - 3 * 4^(k - 1), which is 4^(k - 1).

@@ -8,7 +8,7 @@ ghost use Rattle.digits.specs.Digits.{pack};
 ghost use Rattle.card.specs.Card.{linesOk};
 ghost use Rattle.gates.specs.Gates.{inverseOp};
 ghost use Rattle.gates.specs.Records.{recordOf};
-ghost use Rattle.gates.specs.Words.{byte, Word, bytesIn, bare, isWord, gateOf, Low, controlMarks, otherMarks};
+ghost use Rattle.gates.specs.Inner.Words.{byte, Word, bytesIn, bare, isWord, gateOf, LowControls, controlMarks, otherMarks};
 use super::Gate;
 
 fn wide(x: u8) -> u64
@@ -26,7 +26,7 @@ fn half_at(bytes: &[u8], at: usize) -> u64
     let b = wide(bytes[at + 1]);
     let c = wide(bytes[at + 2]);
     let d = wide(bytes[at + 3]);
-    a + 256 * b + 65536 * c + 16777216 * d
+    a + 256 * b + 0x1_0000 * c + 0x100_0000 * d
 }
 
 // The record at a place.
@@ -35,7 +35,7 @@ pub fn word_at(bytes: &[u8], at: usize) -> u64
     ensures { λ r. ⌜ Word (now (bytes .entry)) at r ⌝ }
 {
     let part = &bytes[at..at + 8];
-    half_at(part, 0) + 4294967296 * half_at(part, 4)
+    half_at(part, 0) + 0x1_0000_0000 * half_at(part, 4)
 }
 
 // The word's 8 bytes, stored at a place.
@@ -45,12 +45,12 @@ pub fn store(w: u64, out: &mut [u8], at: usize)
 {
     out[at] = (w % 256) as u8;
     out[at + 1] = (w / 256 % 256) as u8;
-    out[at + 2] = (w / 65536 % 256) as u8;
-    out[at + 3] = (w / 16777216 % 256) as u8;
-    out[at + 4] = (w / 4294967296 % 256) as u8;
-    out[at + 5] = (w / 1099511627776 % 256) as u8;
-    out[at + 6] = (w / 281474976710656 % 256) as u8;
-    out[at + 7] = (w / 72057594037927936 % 256) as u8;
+    out[at + 2] = (w / 0x1_0000 % 256) as u8;
+    out[at + 3] = (w / 0x100_0000 % 256) as u8;
+    out[at + 4] = (w / 0x1_0000_0000 % 256) as u8;
+    out[at + 5] = (w / 0x100_0000_0000 % 256) as u8;
+    out[at + 6] = (w / 0x1_0000_0000_0000 % 256) as u8;
+    out[at + 7] = (w / 0x100_0000_0000_0000 % 256) as u8;
 }
 
 // The weight of byte k.
@@ -67,7 +67,7 @@ fn bare_bytes(n: u64, t: u64) -> u64
     ensures { λ r. ⌜ r ≡ bare n t ⌝ }
 {
     let lines = weight(n);
-    65536 * (0x030303030303 / lines * lines + 3 * weight(t))
+    0x1_0000 * (0x0303_0303_0303 / lines * lines + 3 * weight(t))
 }
 
 // The word is a gate on so many lines. Byte 0 is the operator, byte 1 the target, byte 2 + k the control of line k: no control has a bit of 0xfc, and where
@@ -89,22 +89,22 @@ pub fn is_gate(lines: u8, w: u64) -> bool
         return false;
     }
     let bare = bare_bytes(n, target);
-    w & (0xfcfcfcfcfcfc0000 + bare) == bare
+    w & (0xfcfc_fcfc_fcfc_0000 + bare) == bare
 }
 
-// The control bytes, packed in base 4: 4161 is 4096 and 64 and 1, so that the product has three bytes side by side from bit 12 on.
+// The control bytes, packed in base 4: 0x1041 is 0x1000 and 0x40 and 1, so that the product has three bytes side by side from bit 12 on.
 fn packed_controls(w: u64) -> u64
-    requires { ⌜ Low w ⌝ }
-    ensures { λ r. ⌜ (r ≡ pack 4 (λ k. byte (2 + k) w) 6) × (r < 4096) ⌝ }
+    requires { ⌜ LowControls w ⌝ }
+    ensures { λ r. ⌜ (r ≡ pack 4 (λ k. byte (2 + k) w) 6) × (r < 0x1000) ⌝ }
 {
-    let low = w / 65536 % 16777216;
-    let high = w / 1099511627776;
-    4161 * low / 4096 % 64 + 64 * (4161 * high / 4096 % 64)
+    let low = w / 0x1_0000 % 0x100_0000;
+    let high = w / 0x100_0000_0000;
+    0x1041 * low / 0x1000 % 64 + 64 * (0x1041 * high / 0x1000 % 64)
 }
 
 // The gate that the word writes down.
 pub fn gate_of(w: u64) -> Gate
-    requires { ⌜ Low w ⌝ }
+    requires { ⌜ LowControls w ⌝ }
     ensures { λ r. ⌜ r ≡ gateOf w ⌝ }
 {
     Gate {
@@ -116,27 +116,27 @@ pub fn gate_of(w: u64) -> Gate
 
 // 1 for each line whose control byte is another than its byte of d: of each two bits that differ, one is set.
 pub fn mark_others(w: u64, d: u64) -> u64
-    requires { ⌜ Low w × ((k : ℕ) → k < 6 → byte k d < 4) ⌝ }
+    requires { ⌜ LowControls w × ((k : ℕ) → k < 6 → byte k d < 4) ⌝ }
     ensures { λ r. ⌜ r ≡ otherMarks w d ⌝ }
 {
-    let x = d ^ w / 65536;
-    (x | x / 2) & 0x010101010101
+    let x = d ^ w / 0x1_0000;
+    (x | x / 2) & 0x0101_0101_0101
 }
 
 // 1 for each line that has a control.
 pub fn mark_controls(w: u64) -> u64
-    requires { ⌜ Low w ⌝ }
+    requires { ⌜ LowControls w ⌝ }
     ensures { λ r. ⌜ r ≡ controlMarks w ⌝ }
 {
-    mark_others(w, 0x030303030303)
+    mark_others(w, 0x0303_0303_0303)
 }
 
-// Three packed controls, a byte each: 4161 is 4096 and 64 and 1, so that in the product each stands where its byte begins.
+// Three packed controls, a byte each: 0x1041 is 0x1000 and 0x40 and 1, so that in the product each stands where its byte begins.
 fn three_bytes(x: u64) -> u64
     requires { ⌜ x < 64 ⌝ }
-    ensures { λ r. ⌜ (r ≡ x % 4 + 256 * (x / 4 % 4) + 65536 * (x / 16 % 4)) × (r ≤ 197379) ⌝ }
+    ensures { λ r. ⌜ (r ≡ x % 4 + 256 * (x / 4 % 4) + 0x1_0000 * (x / 16 % 4)) × (r ≤ 0x03_0303) ⌝ }
 {
-    x * 4161 & 0x030303
+    x * 0x1041 & 0x03_0303
 }
 
 // The word of a gate: its controls, packed in base 4, are spread over bytes.
@@ -146,7 +146,7 @@ pub fn word_of(g: Gate) -> u64
     let c = g.controls as u64;
     let low = three_bytes(c % 64);
     let high = three_bytes(c / 64 % 64);
-    g.operator as u64 + 256 * (g.target as u64 + 256 * (low + 0x01000000 * high))
+    g.operator as u64 + 256 * (g.target as u64 + 256 * (low + 0x100_0000 * high))
 }
 
 // The word with another operator byte: that of the operator's inverse. C1 and C2 are 1 and 2, and 3 turns each into the other; of the five operators they

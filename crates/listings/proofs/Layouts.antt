@@ -9,7 +9,7 @@ use lib.ListN.{length}
 use Rattle.ranges.specs.Ranges.{span}
 use Rattle.ranges.proofs.Spans.{span-more, span-ends, span-snoc}
 use Rattle.gates.specs.declared.Gate.{Gate}
-use Rattle.gates.specs.Words.{gateOf}
+use Rattle.gates.specs.Inner.Words.{gateOf}
 use Rattle.gates.proofs.Bytes.{operator-word, target-word}
 use Rattle.cascades.specs.Prices.{cascadePrice}
 use Rattle.listings.specs.Texts.{ascii, decimal}

@@ -17,7 +17,7 @@ use Rattle.digits.specs.Digits.{digit}
 use Rattle.digits.proofs.Digits.{digit-lt}
 use Rattle.gates.specs.declared.Gate.{Gate}
 use Rattle.gates.specs.Gates.{control, IsGate}
-use Rattle.gates.specs.Words.{byte, gateOf, GateWord, controlMarks}
+use Rattle.gates.specs.Inner.Words.{byte, gateOf, GateWord, controlMarks}
 use Rattle.gates.proofs.Bytes.{operator-word, target-word}
 use Rattle.gates.proofs.Marks.{marks-counted, control-word}
 use Rattle.cascades.specs.Cascades.{Cascade}

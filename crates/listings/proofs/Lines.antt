@@ -15,12 +15,12 @@ use Rattle.ranges.proofs.Bools.{and-left, and-right, clash}
 use Rattle.ranges.proofs.Tests.{every-below}
 use Rattle.digits.specs.Digits.{digit}
 use Rattle.digits.proofs.Digits.{digit-zero, shift-start, shift-digit, shift-next}
-use Rattle.gates.specs.Words.{byte, Word, bytesIn, gateOf, GateWord}
+use Rattle.gates.specs.Inner.Words.{byte, Word, bytesIn, gateOf, GateWord}
 use Rattle.gates.proofs.Bytes.{length-word, byte-one, byte-high, operator-is, word-is, word-low}
 use Rattle.gates.proofs.Marks.{control-word}
 use Rattle.gates.proofs.Records.{reads}
 use Rattle.card.proofs.Cards.{lines-are}
-use Rattle.cascades.specs.Cascades.{Whole}
+use Rattle.cascades.specs.Inner.Checked.{Whole}
 use Rattle.listings.specs.Texts.{ascii, width, decimal}
 use Rattle.listings.specs.Listings.{joined, nameOf, lineText, controlText}
 use Rattle.listings.specs.Pieces.{begins, carries, nameRight, namesRight, Laid}

@@ -10,7 +10,7 @@ use Rattle.gates.specs.declared.Gate.{Gate}
 use Rattle.gates.specs.Gates.{control}
 use Rattle.cascades.specs.Cascades.{gatesOf}
 use Rattle.cascades.specs.Prices.{cascadePrice}
-use Rattle.cascades.specs.Answers.{sound}
+use Rattle.cascades.specs.Answers.{onCascade}
 use Rattle.listings.specs.Texts.{ascii, decimal}
 use Rattle.listings.specs.declared.Listed.{Listed}
 
@@ -53,7 +53,7 @@ listingText n gs = headText n gs ++ gateTexts gs
 unfoldable pub listingAnswer : ℕ → List ℕ → ℕ → Answer
 listingAnswer n b room =
     let size = length (listingText n (gatesOf b)) in
-    onLines n (sound n b (refusing (ltb room size) 5 size (accepted (size ∷ []))))
+    onLines n (onCascade n b (refusing (ltb room size) 5 size (accepted (size ∷ []))))
 
 unfoldable pub listingRoom : ℕ → List ℕ → List ℕ → List ℕ
 listingRoom n b room = after (listingAnswer n b (length room)) (laid (listingText n (gatesOf b)) room) room

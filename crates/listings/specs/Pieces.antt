@@ -7,7 +7,7 @@ use lib.Dec.{eqb}
 use lib.ListN.{length, getD, take}
 use lib.Seq.{sets}
 use Rattle.ranges.specs.Ranges.{every}
-use Rattle.gates.specs.Words.{bytesIn}
+use Rattle.gates.specs.Inner.Words.{bytesIn}
 use Rattle.listings.specs.Listings.{nameOf}
 
 -- bytes that begin with a text

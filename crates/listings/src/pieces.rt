@@ -6,7 +6,7 @@ ghost use mathlib.Core.List.{_++_};
 ghost use Prim.Native.Nat.{_/_, _%_, _≤_};
 ghost use lib.ListN.{length};
 ghost use Rattle.ranges.specs.Ranges.{span};
-ghost use Rattle.gates.specs.Words.{gateOf, GateWord};
+ghost use Rattle.gates.specs.Inner.Words.{gateOf, GateWord};
 ghost use Rattle.listings.specs.Listings.{nameOf, lineText, controlText, joined, gateText};
 ghost use Rattle.listings.specs.Pieces.{namesRight, Laid};
 use gates::words;

@@ -2,8 +2,9 @@
 ghost use mathlib.Core.Path.{_≡_};
 ghost use mathlib.Core.Bool.{true};
 ghost use lib.ListN.{length};
-ghost use Rattle.gates.specs.Words.{gateOf, GateWord};
-ghost use Rattle.cascades.specs.Cascades.{Whole, records, gatesOf};
+ghost use Rattle.gates.specs.Inner.Words.{gateOf, GateWord};
+ghost use Rattle.cascades.specs.Cascades.{records, gatesOf};
+ghost use Rattle.cascades.specs.Inner.Checked.{Whole};
 ghost use Rattle.cascades.specs.Prices.{cascadePrice};
 ghost use Rattle.listings.specs.Listings.{gateText, gateTexts, listingText};
 ghost use Rattle.listings.specs.Pieces.{namesRight};

@@ -95,7 +95,7 @@ module _ (q : ℕ) where
           omega arith
 
   module _ {G : Type 0} (apply : G → ℕ → ℕ) (make : ℕ → ℕ → ℕ → ℕ → G) (n : ℕ) (fam : Exchanges (suc q) apply make n) (t : List ℕ)
-      (perm : Permutation (suc q) n t) where
+      (perm : Permutation (suc q ^ n) t) where
     rows-most : (i : ℕ) → i ≤ suc q ^ n → length (rows (suc q) apply make n i (begun t) .found) ≤ sum (most (suc q) n) 0 i
     unfolding rows
     rows-most zero le = omega arith

@@ -14,8 +14,8 @@ use Rattle.ranges.proofs.Searches.{found, found-unique}
 use Rattle.tables.specs.Permutations.{Permutation, inverseTable}
 use Rattle.procedure.proofs.Pairs.{onto}
 
-module _ (r n : ℕ) (t : List ℕ) (pos : 0 < r) (perm : Permutation r n t) where
-  inverse-size : length (inverseTable r n t) ≡ r ^ n
+module _ (r n : ℕ) (t : List ℕ) (pos : 0 < r) (perm : Permutation (r ^ n) t) where
+  inverse-size : length (inverseTable (r ^ n) t) ≡ r ^ n
   unfolding inverseTable
   inverse-size = length-span (λ q. first (λ p. eqb (getD t p 0) q) 0 (r ^ n)) 0 (r ^ n)
 
@@ -31,7 +31,7 @@ module _ (r n : ℕ) (t : List ℕ) (pos : 0 < r) (perm : Permutation r n t) whe
         hit = λ lt. eq-eqb (getD t p 0) (getD t p 0) refl;
       })
 
-  pub inverse-entry : (p : ℕ) → p < r ^ n → getD (inverseTable r n t) (getD t p 0) 0 ≡ p
+  pub inverse-entry : (p : ℕ) → p < r ^ n → getD (inverseTable (r ^ n) t) (getD t p 0) 0 ≡ p
   unfolding inverseTable
   inverse-entry p lp =
       span-at (λ q. first (λ j. eqb (getD t j 0) q) 0 (r ^ n)) 0 (r ^ n) (getD t p 0) 0 (perm .within p lp)
@@ -41,13 +41,13 @@ module _ (r n : ℕ) (t : List ℕ) (pos : 0 < r) (perm : Permutation r n t) whe
   each-pattern : (P : ℕ → Type 0) → ((p : ℕ) → p < r ^ n → P (getD t p 0)) → (q : ℕ) → q < r ^ n → P q
   each-pattern P h q lq = let x = onto r n t pos perm q lq in subst P (x .2) (h (x .0) (x .1))
 
-  pub entry-inverse : (q : ℕ) → q < r ^ n → getD t (getD (inverseTable r n t) q 0) 0 ≡ q
-  entry-inverse = each-pattern (λ q. getD t (getD (inverseTable r n t) q 0) 0 ≡ q) (λ p lp. ap (λ (x : ℕ). getD t x 0) (inverse-entry p lp))
+  pub entry-inverse : (q : ℕ) → q < r ^ n → getD t (getD (inverseTable (r ^ n) t) q 0) 0 ≡ q
+  entry-inverse = each-pattern (λ q. getD t (getD (inverseTable (r ^ n) t) q 0) 0 ≡ q) (λ p lp. ap (λ (x : ℕ). getD t x 0) (inverse-entry p lp))
 
-  pub inverse-within : (q : ℕ) → q < r ^ n → getD (inverseTable r n t) q 0 < r ^ n
-  inverse-within = each-pattern (λ q. getD (inverseTable r n t) q 0 < r ^ n) (λ p lp. rw (inverse-entry p lp) lp)
+  pub inverse-within : (q : ℕ) → q < r ^ n → getD (inverseTable (r ^ n) t) q 0 < r ^ n
+  inverse-within = each-pattern (λ q. getD (inverseTable (r ^ n) t) q 0 < r ^ n) (λ p lp. rw (inverse-entry p lp) lp)
 
-  pub inverse-permutation : Permutation r n (inverseTable r n t)
+  pub inverse-permutation : Permutation (r ^ n) (inverseTable (r ^ n) t)
   inverse-permutation =
       record {
         size = inverse-size;

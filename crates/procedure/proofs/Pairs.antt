@@ -5,7 +5,7 @@ use Prim.Native.Nat.{ℕ, _^_, _<_}
 use Rattle.digits.specs.Digits.{put}
 use Rattle.digits.proofs.Digits.{put-lt}
 use Rattle.tables.specs.Permutations.{Permutation}
-use Rattle.procedure.specs.Exchanges.{exchanged}
+use Rattle.procedure.specs.Inner.Exchanges.{exchanged}
 use Rattle.procedure.proofs.Families.{Exchanges}
 use Rattle.procedure.proofs.Settles.{Onto, reaches}
 use Rattle.procedure.proofs.Swaps.{at-one, at-none, exchanged-twice, exchanged-lt}
@@ -31,5 +31,5 @@ module _ (r n : ℕ) where
       }
 
 -- a permutation reaches every pattern
-pub onto : (r n : ℕ) (t : List ℕ) → 0 < r → Permutation r n t → Onto r n t
+pub onto : (r n : ℕ) (t : List ℕ) → 0 < r → Permutation (r ^ n) t → Onto r n t
 onto r n t pos perm = reaches r pos swapped (pair r n) n (pairs r n) t perm

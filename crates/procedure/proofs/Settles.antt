@@ -28,7 +28,7 @@ Onto r n t = (q : ℕ) → q < r ^ n → (p : ℕ) × (p < r ^ n) × (getD t p 0
 module _ (r : ℕ) (pos : 0 < r) {G : Type 0} (apply : G → ℕ → ℕ) (make : ℕ → ℕ → ℕ → ℕ → G) (n : ℕ) (fam : Exchanges r apply make n) where
   -- ---- a gate that was asked for, applied to all entries of a permutation
 
-  module _ (k a d : ℕ) (w : Asked r n k a d) (t : List ℕ) (perm : Permutation r n t) where
+  module _ (k a d : ℕ) (w : Asked r n k a d) (t : List ℕ) (perm : Permutation (r ^ n) t) where
     pub entry-after : (p : ℕ) → p < r ^ n → getD (map (apply (make n k a d)) t) p 0 ≡ apply (make n k a d) (getD t p 0)
     entry-after p lt = map-at (apply (make n k a d)) t p 0 0 (omega (arith, perm .size))
 
@@ -37,7 +37,7 @@ module _ (r : ℕ) (pos : 0 < r) {G : Type 0} (apply : G → ℕ → ℕ) (make 
     entry-before p q lp lq e =
         sym (fam .twice k a d w (getD t p 0) (perm .within p lp)) ∙ ap (apply (make n k a d)) (sym (entry-after p lp) ∙ e) ∙ fam .twice k a d w q lq
 
-    pub permutation-after : Permutation r n (map (apply (make n k a d)) t)
+    pub permutation-after : Permutation (r ^ n) (map (apply (make n k a d)) t)
     permutation-after =
         record {
           size = length-map t (apply (make n k a d)) ∙ perm .size;
@@ -54,7 +54,7 @@ module _ (r : ℕ) (pos : 0 < r) {G : Type 0} (apply : G → ℕ → ℕ) (make 
 
   module _ (t : List ℕ) where
     pub record Kept (s : State G) : Type 0 where
-      pub perm : Permutation r n (s .table)
+      pub perm : Permutation (r ^ n) (s .table)
       pub back : (p : ℕ) → p < r ^ n → through apply (s .found) (getD (s .table) p 0) ≡ getD t p 0
       pub onto : Onto r n (s .table) → Onto r n t
       pub made : Each (Made r apply make n) (s .found)
@@ -171,7 +171,7 @@ module _ (r : ℕ) (pos : 0 < r) {G : Type 0} (apply : G → ℕ → ℕ) (make 
                 (eq-or-lt-of-le (le-of-suc-le-suc lt));
           }
 
-    module _ (perm : Permutation r n t) where
+    module _ (perm : Permutation (r ^ n) t) where
       done-begun : Done 0 (begun t)
       done-begun = record { kept = record { perm = perm; back = λ p lp. through-nil apply _; onto = λ f. f; made = tt }; settled = λ j lt. absurd (omega arith) }
 

@@ -5,7 +5,7 @@ use Prim.Native.Nat.{ℕ, _^_, _<_}
 use native.Mathlib.Decide.{ℕ-discrete}
 use borrow.Author.Tests.{eq-eqb, ne-eqb}
 use Rattle.digits.specs.Digits.{put}
-use Rattle.procedure.specs.Exchanges.{exchanged}
+use Rattle.procedure.specs.Inner.Exchanges.{exchanged}
 use Rattle.procedure.proofs.Families.{Asked, Exchanges, back-again}
 
 module _ (a b : ℕ) where

@@ -1,2 +1,2 @@
 pub mod Procedure
-pub mod Exchanges
+pub mod Inner

@@ -24,7 +24,8 @@ use Rattle.gates.specs.declared.Gate.{Gate}
 use Rattle.gates.specs.Gates.{IsGate}
 use Rattle.gates.specs.Records.{gateAt, recordOf}
 use Rattle.gates.proofs.Records.{length-record, gate-written, encode-decode}
-use Rattle.cascades.specs.Cascades.{records, gatesOf, bytesOf, Whole}
+use Rattle.cascades.specs.Cascades.{records, gatesOf, bytesOf}
+use Rattle.cascades.specs.Inner.Checked.{Whole}
 use Rattle.cascades.proofs.Cascades.{gates-good, gates-count}
 use Rattle.cascades.proofs.Stored.{length-bytes}
 use Rattle.rules.specs.Tidying.{gate}

@@ -12,7 +12,7 @@ use Rattle.digits.proofs.Packs.{pack-ext, pack-digits}
 use Rattle.gates.specs.declared.Gate.{Gate}
 use Rattle.gates.specs.Gates.{control}
 use Rattle.gates.specs.Records.{recordOf}
-use Rattle.gates.specs.Words.{byte, Word, bytesIn, gateOf, GateWord}
+use Rattle.gates.specs.Inner.Words.{byte, Word, bytesIn, gateOf, GateWord}
 use Rattle.gates.proofs.Bytes.{byte-in, byte-one, length-word}
 use Rattle.remembering.specs.Buffers.{Stands, Moved}
 

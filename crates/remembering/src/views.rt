@@ -4,7 +4,7 @@ ghost use mathlib.Core.Bool.{true, false};
 ghost use Prim.Native.Nat.{_+_, _*_, _^_, _≤_, _<_};
 ghost use lib.Bits.{bitAnd};
 ghost use lib.ListN.{length, getD, set};
-ghost use Rattle.gates.specs.Words.{gateOf, GateWord};
+ghost use Rattle.gates.specs.Inner.Words.{gateOf, GateWord};
 ghost use Rattle.rules.specs.Tidying.{gate};
 ghost use Rattle.remembering.specs.Buffers.{gatesIn, isGap, Stands, Holds};
 ghost use Rattle.remembering.specs.Rows.{Clear};

@@ -14,7 +14,8 @@ use Rattle.ranges.proofs.Triples.{triple-at, if-so, if-not, beq-same}
 use Rattle.digits.specs.Digits.{digit, put}
 use Rattle.digits.proofs.Digits.{digit-lt, digit-put-same, digit-put-other, put-put, put-same, put-swap}
 use Rattle.gates.specs.declared.Gate.{Gate}
-use Rattle.gates.specs.Gates.{act, control, holds, fires, applied, IsGate}
+use Rattle.gates.specs.Gates.{act, control, holds, changed, applied, IsGate}
+use Rattle.gates.specs.Inner.Firing.{fires}
 use Rattle.gates.proofs.Operators.{act-lt}
 use Rattle.gates.proofs.Gates.{fires-put, fires-put-free}
 use Rattle.rules.specs.Places.{isC, sameType, upsets, blocks, clashes, mayChange}
@@ -52,7 +53,7 @@ turned-lt true o x lt = act-lt o x
 turned-lt false o x lt = lt
 
 applied-here : (g : Gate) (p : ℕ) → applied g p ≡ put 3 (g .target) p (turned (fires g p) (g .operator) (digit 3 (g .target) p))
-unfolding applied
+unfolding applied changed
 applied-here g p = go (fires g p)
   where
     go : (b : Bool) → cond b (put 3 (g .target) p (act (g .operator) (digit 3 (g .target) p))) p
@@ -72,7 +73,7 @@ still-fires n g h p ok free =
     let lc : control h (g .target) < 4 = digit-lt 4 (g .target) (h .controls) (omega arith) in
     let lo : g .operator < 6 = omega (arith, ok .op-high) in
     ap (fires h) (applied-here g p)
-    ∙ fires-put (h .controls) p (g .target) (turned (fires g p) (g .operator) (digit 3 (g .target) p)) (turned-lt (fires g p) (g .operator) (digit 3 (g .target) p) lx)
+    ∙ fires-put 3 (h .controls) p (g .target) (turned (fires g p) (g .operator) (digit 3 (g .target) p)) (turned-lt (fires g p) (g .operator) (digit 3 (g .target) p) lx)
     (go (fires g p) (keeps (g .operator) (control h (g .target)) (digit 3 (g .target) p) lo lc lx free))
   where
     go : (b : Bool) → holds (control h (g .target)) (act (g .operator) (digit 3 (g .target) p)) ≡ holds (control h (g .target)) (digit 3 (g .target) p)
@@ -90,7 +91,7 @@ on-one-target g h t p eg eh own =
     let ld : turned (fires g p) (g .operator) (digit 3 t p) < 3 = turned-lt (fires g p) (g .operator) (digit 3 t p) (digit-lt 3 t p (omega arith)) in
     ap (applied h) (applied-puts g t p eg)
     ∙ applied-puts h t (put 3 t p d) eh
-    ∙ rw (fires-put-free (h .controls) p t d ld own, digit-put-same 3 t p d ld, put-put 3 t p d _ ld)
+    ∙ rw (fires-put-free 3 (h .controls) p t d ld own, digit-put-same 3 t p d ld, put-put 3 t p d _ ld)
 
 -- on two targets, where the first does not block the second, they put two digits
 on-two-targets : (n : ℕ) (g h : Gate) (p : ℕ) → IsGate n g → (h .target ≡ g .target → ⊥) → blocks g h ≡ false

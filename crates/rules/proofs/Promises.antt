@@ -11,7 +11,7 @@ use Rattle.ranges.proofs.Spans.{span-ext}
 use Rattle.ranges.proofs.Parts.{total-ext}
 use Rattle.gates.specs.declared.Gate.{Gate}
 use Rattle.gates.specs.Gates.{IsGate}
-use Rattle.cascades.specs.Cascades.{ran, tableOf, Cascade}
+use Rattle.cascades.specs.Cascades.{ran, tableFor, tableOf, Cascade}
 use Rattle.cascades.specs.Prices.{gatePrice, cascadePrice}
 use Rattle.rules.specs.Rules.{fits}
 use Rattle.rules.specs.Tidying.{gate, isOpen, ruled, size, tidied}
@@ -45,7 +45,7 @@ module _ (n : ℕ) (gs : List Gate) (ok : Cascade n gs) where
 
   -- and so the table
   pub tidied-table : tableOf n (tidied gs .left) ≡ tableOf n gs
-  unfolding tableOf
+  unfolding tableFor
   tidied-table = span-ext (ran (tidied gs .left)) (ran gs) 0 (3 ^ n) (λ p le lt. tidied-keeps p)
 
   -- it does not raise the gate count

@@ -20,7 +20,8 @@ use Rattle.digits.specs.Digits.{digit, put}
 use Rattle.digits.proofs.Three.{three}
 use Rattle.digits.proofs.Digits.{digit-lt, digit-put-same, digit-put-other, put-same, put-lt}
 use Rattle.gates.specs.declared.Gate.{Gate}
-use Rattle.gates.specs.Gates.{act, inverseOp, control, holds, firesOn, fires, applied, inverse, IsGate}
+use Rattle.gates.specs.Gates.{act, inverseOp, control, holds, firesOn, applied, inverse, IsGate}
+use Rattle.gates.specs.Inner.Firing.{fires}
 use Rattle.gates.proofs.Operators.{act-inverse}
 use Rattle.gates.proofs.Gates.{holds-none, inverse-gate}
 use Rattle.cascades.specs.Cascades.{ran}

@@ -17,7 +17,7 @@ use Rattle.digits.proofs.Digits.{digit-zero, digit-high}
 use Rattle.digits.proofs.Packs.{pack-ext, pack-lt}
 use Rattle.digits.proofs.Bits.{bytes-sum}
 use Rattle.gates.specs.Gates.{control}
-use Rattle.gates.specs.Words.{byte, gateOf, Low, GateWord, controlMarks, otherMarks}
+use Rattle.gates.specs.Inner.Words.{byte, gateOf, LowControls, GateWord, controlMarks, otherMarks}
 use Rattle.gates.proofs.Bytes.{byte-high, operator-word}
 use Rattle.gates.proofs.Marks.{control-mark, control-word}
 use Rattle.rules.specs.Rules.{sameLines, differAt, differences}
@@ -42,7 +42,7 @@ control-in w t ok le =
 
 -- ---- the controls of two numbers, all lines at once
 
-module _ (g h : ℕ) (low-g : Low g) (low-h : Low h) where
+module _ (g h : ℕ) (low-g : LowControls g) (low-h : LowControls h) where
   both-free : ℕ → Bool
   both-free k = Bool·beq (eqb (control (gateOf g) k) 3) (eqb (control (gateOf h) k) 3)
 

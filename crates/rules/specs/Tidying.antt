@@ -11,7 +11,7 @@ use Rattle.gates.specs.declared.Gate.{Gate}
 use Rattle.gates.specs.Gates.{inverse}
 use Rattle.cascades.specs.Cascades.{records, gatesOf, bytesOf}
 use Rattle.cascades.specs.Prices.{controlCount}
-use Rattle.cascades.specs.Answers.{sound}
+use Rattle.cascades.specs.Answers.{onCascade}
 use Rattle.rules.specs.Places.{mayChange}
 use Rattle.rules.specs.Rules.{fits, cancels, merges, loosened, retuned}
 
@@ -79,7 +79,7 @@ tidied gs = tidiedIn (size gs) gs
 
 -- 1 6 7
 unfoldable pub tidyAnswer : ℕ → List ℕ → Answer
-tidyAnswer n b = let r = tidied (gatesOf b) in onLines n (sound n b (accepted (length (r .left) ∷ r .steps ∷ [])))
+tidyAnswer n b = let r = tidied (gatesOf b) in onLines n (onCascade n b (accepted (length (r .left) ∷ r .steps ∷ [])))
 
 -- the buffer afterwards: the gates left stand first, and the records freed at the end are zero bytes
 unfoldable pub tidyBuffer : ℕ → List ℕ → List ℕ

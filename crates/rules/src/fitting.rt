@@ -6,7 +6,7 @@ ghost use lib.Dec.{eqb};
 ghost use Rattle.ranges.specs.Ranges.{first};
 ghost use Rattle.digits.specs.Digits.{digit};
 ghost use Rattle.gates.specs.Gates.{inverse};
-ghost use Rattle.gates.specs.Words.{gateOf, GateWord};
+ghost use Rattle.gates.specs.Inner.Words.{gateOf, GateWord};
 ghost use Rattle.rules.specs.Rules.{reduces, fits, loosened, retuned};
 ghost use Rattle.rules.specs.Words.{ruleFor, ruleBy};
 use gates::Gate;

@@ -3,7 +3,7 @@ ghost use mathlib.Core.Path.{_≡_};
 ghost use mathlib.Core.Bool.{cond, not};
 ghost use Prim.Native.Nat.{_≤_, _<_};
 ghost use lib.Dec.{eqb};
-ghost use Rattle.gates.specs.Words.{gateOf, GateWord};
+ghost use Rattle.gates.specs.Inner.Words.{gateOf, GateWord};
 ghost use Rattle.gates.specs.Gates.{control};
 ghost use Rattle.rules.specs.Places.{isC, sameType, blocks, clashes, mayChange};
 

@@ -12,11 +12,11 @@ use lib.Seq.{sets}
 use borrow.Author.Tests.{eq-eqb, ne-eqb, lt-ltb, le-ltb, ltb-false}
 use Rattle.card.specs.Card.{Answer.accepted, Answer.refused, refusing, linesOk, after, laid}
 use Rattle.card.proofs.Cards.{lines-are, no-lines, good-lines, refusing-yes, refusing-no, refused-both, accepted-both, sets-laid}
-use Rattle.tables.specs.Tables.{tabled}
+use Rattle.tables.specs.Tables.{onTable}
 use Rattle.tables.specs.Permutations.{Permutation}
-use Rattle.tables.proofs.Accepts.{Refuses, tabled-is, tabled-permutation}
+use Rattle.tables.proofs.Accepts.{Refuses, on-table-is, on-table-permutation}
 use Rattle.cascades.specs.Cascades.{gatesOf, bytesOf}
-use Rattle.cascades.proofs.Answers.{passed}
+use Rattle.cascades.proofs.Checks.{passed}
 use Rattle.cascades.proofs.Readings.{bytes-whole, bytes-gates}
 use Rattle.synthesis.specs.Synthesis.{synthesized, bound, synthesizeAnswer, synthesizeRoom}
 use Rattle.synthesis.proofs.Synthesis.{synthesized-cascade}
@@ -36,7 +36,7 @@ module _ (f : List ℕ) where
   unfolding fileAnswer
   file-broken e ne = good-lines (linesOf f) _ e ∙ refusing-yes _ 2 0 _ (ap not (ne-eqb (length f) (1 + 2 * 3 ^ linesOf f) ne))
 
-  pub file-whole : linesOk (linesOf f) ≡ true → length f ≡ 1 + 2 * 3 ^ linesOf f → fileAnswer f ≡ tabled (linesOf f) (entriesOf f) (accepted [])
+  pub file-whole : linesOk (linesOf f) ≡ true → length f ≡ 1 + 2 * 3 ^ linesOf f → fileAnswer f ≡ onTable (3 ^ linesOf f) (entriesOf f) (accepted [])
   unfolding fileAnswer
   file-whole e size = good-lines (linesOf f) _ e ∙ refusing-no _ 2 0 _ (ap not (eq-eqb (length f) (1 + 2 * 3 ^ linesOf f) size))
 
@@ -86,12 +86,12 @@ module _ (f : List ℕ) where
 -- ---- what synthesis finds of the entries, with room enough for its records
 
 module _ (f : List ℕ) (n : ℕ) (t : List ℕ) (h : Holds f n t) where
-  pub file-tabled : fileAnswer f ≡ tabled n t (accepted [])
+  pub file-on-table : fileAnswer f ≡ onTable (3 ^ n) t (accepted [])
   file-tabled = rw (h .entries, h .first) (file-whole f (rw (h .first) at (h .lines)) (rw (h .first) at (h .size)))
 
-  module _ (perm : Permutation 3 n t) where
+  module _ (perm : Permutation (3 ^ n) t) where
     text-is : sheetText f ≡ listingText n (synthesized n t)
-    text-is = rw (h .entries, h .first) (text-listing f (file-tabled ∙ tabled-permutation n t perm (accepted [])))
+    text-is = rw (h .entries, h .first) (text-listing f (file-on-table ∙ on-table-permutation (3 ^ n) t perm (accepted [])))
 
     -- the records of the cascade, listed
     listed-text : listingText n (gatesOf (bytesOf (synthesized n t))) ≡ sheetText f
@@ -108,28 +108,28 @@ module _ (f : List ℕ) (n : ℕ) (t : List ℕ) (h : Holds f n t) where
     told-room room = rw (told-listing (length room), listed-text)
 
   module _ (L : ℕ) (wide : bound n ≤ L / 8) where
-    made : Permutation 3 n t → synthesizeAnswer n t L ≡ accepted (length (synthesized n t) ∷ [])
+    made : Permutation (3 ^ n) t → synthesizeAnswer n t L ≡ accepted (length (synthesized n t) ∷ [])
     unfolding synthesizeAnswer
-    made perm = good-lines n _ (h .lines) ∙ tabled-permutation n t perm _ ∙ refusing-no _ 5 _ _ (le-ltb (L / 8) (bound n) wide)
+    made perm = good-lines n _ (h .lines) ∙ on-table-permutation (3 ^ n) t perm _ ∙ refusing-no _ 5 _ _ (le-ltb (L / 8) (bound n) wide)
 
     -- a refusal is the file's
     pub made-refused : (k p : ℕ) → refused k p ≡ synthesizeAnswer n t L → fileAnswer f ≡ refused k p
     unfolding synthesizeAnswer
-    made-refused k p e = go (tabled-is n t)
+    made-refused k p e = go (on-table-is (3 ^ n) t)
       where
-        go : Permutation 3 n t ⊎ Refuses n t → fileAnswer f ≡ refused k p
+        go : Permutation (3 ^ n) t ⊎ Refuses (3 ^ n) t → fileAnswer f ≡ refused k p
         go (_⊎_.inl perm) =
             let a : refused k p ≡ accepted (length (synthesized n t) ∷ []) = e ∙ made perm in
             let z : _≡_ {A = ℕ} 0 1 = cc in
             absurd (omega arith)
-        go (_⊎_.inr r) = file-tabled ∙ r .always (accepted []) ∙ sym (r .always _) ∙ sym (good-lines n _ (h .lines)) ∙ sym e
+        go (_⊎_.inr r) = file-on-table ∙ r .always (accepted []) ∙ sym (r .always _) ∙ sym (good-lines n _ (h .lines)) ∙ sym e
 
     -- accepted, the table is a permutation
-    pub made-permutation : (vs : List ℕ) → accepted vs ≡ synthesizeAnswer n t L → Permutation 3 n t
+    pub made-permutation : (vs : List ℕ) → accepted vs ≡ synthesizeAnswer n t L → Permutation (3 ^ n) t
     unfolding synthesizeAnswer
-    made-permutation vs e = go (tabled-is n t)
+    made-permutation vs e = go (on-table-is (3 ^ n) t)
       where
-        go : Permutation 3 n t ⊎ Refuses n t → Permutation 3 n t
+        go : Permutation (3 ^ n) t ⊎ Refuses (3 ^ n) t → Permutation (3 ^ n) t
         go (_⊎_.inl perm) = perm
         go (_⊎_.inr r) =
             let a : accepted vs ≡ refused (r .number) (r .place) = e ∙ good-lines n _ (h .lines) ∙ r .always _ in
@@ -141,6 +141,6 @@ module _ (f : List ℕ) (n : ℕ) (t : List ℕ) (h : Holds f n t) where
         let a : accepted (m ∷ []) ≡ accepted (length (synthesized n t) ∷ []) = e ∙ made (made-permutation (m ∷ []) e) in
         cc
 
-  pub made-room : Permutation 3 n t → (room : List ℕ) → bound n ≤ length room / 8 → synthesizeRoom n t room ≡ laid (bytesOf (synthesized n t)) room
+  pub made-room : Permutation (3 ^ n) t → (room : List ℕ) → bound n ≤ length room / 8 → synthesizeRoom n t room ≡ laid (bytesOf (synthesized n t)) room
   unfolding synthesizeRoom after
   made-room perm room wide = rw (made (length room) wide perm)

@@ -13,7 +13,7 @@ use Rattle.ranges.proofs.Bools.{decide}
 use Rattle.card.specs.Card.{Answer.accepted, Answer.refused, linesOk}
 use Rattle.card.proofs.Cards.{lines-are, refusing-no}
 use Rattle.tables.specs.Permutations.{Permutation}
-use Rattle.tables.proofs.Accepts.{Refuses, tabled-is, tabled-permutation}
+use Rattle.tables.proofs.Accepts.{Refuses, on-table-is, on-table-permutation}
 use Rattle.synthesis.specs.Synthesis.{synthesized}
 use Rattle.synthesis.proofs.Synthesis.{bound-most, synthesized-bound, synthesized-cascade}
 use Rattle.listings.proofs.Decimals.{width-most}
@@ -30,21 +30,21 @@ pub record FileRefused (f : List ℕ) : Type 0 where
 -- it holds a permutation
 pub record FileGood (f : List ℕ) : Type 0 where
   pub lines : linesOk (linesOf f) ≡ true
-  pub permutation : Permutation 3 (linesOf f) (entriesOf f)
+  pub permutation : Permutation (3 ^ linesOf f) (entriesOf f)
   pub is : fileAnswer f ≡ accepted []
 
 pub file-is : (f : List ℕ) → FileRefused f ⊎ FileGood f
-file-is f = go (decide (linesOk (linesOf f))) (decide (eqb (length f) (1 + 2 * 3 ^ linesOf f))) (tabled-is (linesOf f) (entriesOf f))
+file-is f = go (decide (linesOk (linesOf f))) (decide (eqb (length f) (1 + 2 * 3 ^ linesOf f))) (on-table-is (3 ^ linesOf f) (entriesOf f))
   where
     go : (linesOk (linesOf f) ≡ true) ⊎ (linesOk (linesOf f) ≡ false)
         → (eqb (length f) (1 + 2 * 3 ^ linesOf f) ≡ true) ⊎ (eqb (length f) (1 + 2 * 3 ^ linesOf f) ≡ false)
-        → Permutation 3 (linesOf f) (entriesOf f) ⊎ Refuses (linesOf f) (entriesOf f) → FileRefused f ⊎ FileGood f
+        → Permutation (3 ^ linesOf f) (entriesOf f) ⊎ Refuses (3 ^ linesOf f) (entriesOf f) → FileRefused f ⊎ FileGood f
     go (_⊎_.inr bad) s t = _⊎_.inl (record { number = 1; place = 0; is = file-lines f bad })
     go (_⊎_.inl ok) (_⊎_.inr ne) t = _⊎_.inl (record { number = 2; place = 0; is = file-broken f ok (eqb-false (length f) (1 + 2 * 3 ^ linesOf f) ne) })
     go (_⊎_.inl ok) (_⊎_.inl e) (_⊎_.inr r) =
         _⊎_.inl (record { number = r .number; place = r .place; is = file-whole f ok (eqb-true (length f) (1 + 2 * 3 ^ linesOf f) e) ∙ r .always (accepted []) })
     go (_⊎_.inl ok) (_⊎_.inl e) (_⊎_.inl perm) =
-        _⊎_.inr (record { lines = ok; permutation = perm; is = file-whole f ok (eqb-true (length f) (1 + 2 * 3 ^ linesOf f) e) ∙ tabled-permutation (linesOf f) (entriesOf f) perm (accepted []) })
+        _⊎_.inr (record { lines = ok; permutation = perm; is = file-whole f ok (eqb-true (length f) (1 + 2 * 3 ^ linesOf f) e) ∙ on-table-permutation (3 ^ linesOf f) (entriesOf f) perm (accepted []) })
 
 -- 31 bytes for each of 4,010 gates and for the head line
 pub sheet-most : (f : List ℕ) → length (sheetText f) ≤ 124341

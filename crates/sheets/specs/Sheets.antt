@@ -7,7 +7,7 @@ use lib.Dec.{eqb, ltb}
 use lib.ListN.{length, getD}
 use Rattle.ranges.specs.Ranges.{span}
 use Rattle.card.specs.Card.{Answer, Answer.accepted, Answer.refused, refusing, linesOk, onLines, after, laid}
-use Rattle.tables.specs.Tables.{tabled}
+use Rattle.tables.specs.Tables.{onTable}
 use Rattle.synthesis.specs.Synthesis.{synthesized}
 use Rattle.listings.specs.Texts.{ascii, decimal}
 use Rattle.listings.specs.Listings.{listingText}
@@ -21,7 +21,7 @@ entriesOf f = span (λ i. getD f (1 + 2 * i) 0 + 256 * getD f (2 + 2 * i) 0) 0 (
 
 -- 1, then 2 for a broken length, then 3 and 4
 unfoldable pub fileAnswer : List ℕ → Answer
-fileAnswer f = onLines (linesOf f) (refusing (not (eqb (length f) (1 + 2 * 3 ^ linesOf f))) 2 0 (tabled (linesOf f) (entriesOf f) (accepted [])))
+fileAnswer f = onLines (linesOf f) (refusing (not (eqb (length f) (1 + 2 * 3 ^ linesOf f))) 2 0 (onTable (3 ^ linesOf f) (entriesOf f) (accepted [])))
 
 -- a refusal's line, or the listing
 unfoldable pub textFor : Answer → List ℕ → List ℕ

@@ -18,8 +18,9 @@ use Rattle.digits.proofs.Digits.{digit-lt, digit-high, digits-equal}
 use Rattle.digits.proofs.Bits.{digit-or}
 use Rattle.digits.proofs.Packs.{digit-pack, pack-lt, pack-ext, pack-add}
 use Rattle.digits.proofs.Sizes.{three-pos}
-use Rattle.gates.specs.Gates.{control, holds, firesOn, fires, IsGate}
-use Rattle.gates.specs.Quads.{quad}
+use Rattle.gates.specs.Gates.{control, holds, firesOn, IsGate}
+use Rattle.gates.specs.Inner.Firing.{fires}
+use Rattle.gates.specs.Inner.Quads.{quad}
 use Rattle.gates.proofs.Gates.{holds-none}
 use Rattle.synthesis.specs.Synthesis.{controlFor, gateFor}
 use Rattle.synthesis.specs.Steps.{fullControls}

@@ -13,7 +13,7 @@ use Rattle.card.specs.Card.{laid}
 use Rattle.card.proofs.Cards.{sets-laid}
 use Rattle.gates.specs.declared.Gate.{Gate}
 use Rattle.gates.specs.Records.{recordOf}
-use Rattle.gates.specs.Words.{bytesIn}
+use Rattle.gates.specs.Inner.Words.{bytesIn}
 use Rattle.cascades.specs.Cascades.{bytesOf}
 use Rattle.cascades.proofs.Stored.{length-bytes}
 use Rattle.synthesis.specs.Steps.{Lays}

@@ -16,7 +16,7 @@ use Rattle.digits.proofs.Sizes.{three-pos}
 use Rattle.gates.specs.declared.Gate.{Gate}
 use Rattle.gates.specs.Gates.{applied}
 use Rattle.procedure.specs.Procedure.{State, adding, digitStep, rowSteps, rows, settled, cascadeFor}
-use Rattle.procedure.specs.Exchanges.{exchanged}
+use Rattle.procedure.specs.Inner.Exchanges.{exchanged}
 use Rattle.procedure.proofs.Steps.{begun, step-same, step-other, row-next, row-grows, rows-next, rows-grow}
 use Rattle.procedure.proofs.Swaps.{gate-exchanges}
 use Rattle.synthesis.specs.Synthesis.{gateFor, synthesized}

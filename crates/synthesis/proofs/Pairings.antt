@@ -10,8 +10,8 @@ use lib.Seq.{getD-set-same, getD-set-other, ext-getD}
 use Rattle.ranges.proofs.Lists.{map-at}
 use Rattle.digits.proofs.Sizes.{three-pos}
 use Rattle.tables.specs.Permutations.{Permutation}
-use Rattle.tables.specs.Inverses.{Inverted}
-use Rattle.procedure.specs.Exchanges.{exchanged}
+use Rattle.tables.specs.Inner.Inverses.{Inverted}
+use Rattle.procedure.specs.Inner.Exchanges.{exchanged}
 use Rattle.procedure.proofs.Swaps.{at-one, at-other, at-none, exchanged-twice, exchanged-lt}
 use Rattle.procedure.proofs.Pairs.{onto}
 use Rattle.synthesis.specs.Steps.{Paired, Present}
@@ -87,7 +87,7 @@ module _ (t v : List ℕ) (w : Paired t v) (a b : ℕ) (la : a < length t) (lb :
 
 -- ---- on n lines
 
-pub present : (n : ℕ) (t v : List ℕ) → n ≤ 6 → Inverted n t v → Present n t v
+pub present : (n : ℕ) (t v : List ℕ) → n ≤ 6 → Inverted (3 ^ n) t v → Present n t v
 present n t v lines w =
     record {
       lines = lines;
@@ -108,7 +108,7 @@ present n t v lines w =
 
 module _ (n : ℕ) (t v : List ℕ) (w : Present n t v) where
   -- a table that has an inverse is a permutation
-  pub present-permutation : Permutation 3 n t
+  pub present-permutation : Permutation (3 ^ n) t
   present-permutation =
       record {
         size = w .size;

@@ -17,9 +17,9 @@ use Rattle.digits.proofs.Bits.{digit-of-zero}
 use Rattle.digits.proofs.Sizes.{three-pos, patterns-some}
 use Rattle.gates.specs.declared.Gate.{Gate}
 use Rattle.gates.specs.Records.{recordOf}
-use Rattle.gates.specs.Words.{bytesIn}
+use Rattle.gates.specs.Inner.Words.{bytesIn}
 use Rattle.procedure.specs.Procedure.{State}
-use Rattle.procedure.specs.Exchanges.{exchanged}
+use Rattle.procedure.specs.Inner.Exchanges.{exchanged}
 use Rattle.procedure.proofs.Swaps.{at-one}
 use Rattle.synthesis.specs.Synthesis.{gateFor}
 use Rattle.synthesis.specs.Steps.{stepFrom, rowFrom, Paired, Present, Reached, fullControls, Lowest, Lays}

@@ -41,7 +41,7 @@ pub bound-most : (n : ℕ) → n ≤ 6 → bound n ≤ 4010
 unfolding bound
 bound-most n le = bound-grows n 5 le
 
-module _ (n : ℕ) (t : List ℕ) (lines : n ≤ 6) (perm : Permutation 3 n t) where
+module _ (n : ℕ) (t : List ℕ) (lines : n ≤ 6) (perm : Permutation (3 ^ n) t) where
   pub synthesized-computes : (p : ℕ) → p < 3 ^ n → ran (synthesized n t) p ≡ getD t p 0
   unfolding synthesized
   synthesized-computes p lp = computes 3 three-pos applied gateFor n (ternary n lines) t perm p lp
@@ -65,7 +65,7 @@ module _ (n : ℕ) (t : List ℕ) (lines : n ≤ 6) (perm : Permutation 3 n t) w
   synthesized-undone p lp =
       ap (ran (undoing (synthesized n t))) (sym (synthesized-computes p lp)) ∙ undone n (synthesized n t) p synthesized-gates
 
-  pub synthesized-inverse : (q : ℕ) → q < 3 ^ n → ran (undoing (synthesized n t)) q ≡ getD (inverseTable 3 n t) q 0
+  pub synthesized-inverse : (q : ℕ) → q < 3 ^ n → ran (undoing (synthesized n t)) q ≡ getD (inverseTable (3 ^ n) t) q 0
   synthesized-inverse q lq =
       ap (ran (undoing (synthesized n t))) (sym (entry-inverse 3 n t three-pos perm q lq))
-      ∙ synthesized-undone (getD (inverseTable 3 n t) q 0) (inverse-within 3 n t three-pos perm q lq)
+      ∙ synthesized-undone (getD (inverseTable (3 ^ n) t) q 0) (inverse-within 3 n t three-pos perm q lq)

@@ -9,7 +9,8 @@ use Rattle.ranges.proofs.Bools.{decide}
 use Rattle.digits.specs.Digits.{digit, put}
 use Rattle.digits.proofs.Digits.{digit-lt, digit-put-same, digit-put-other, put-same, put-lt, digits-equal}
 use Rattle.digits.proofs.Sizes.{three-pos}
-use Rattle.gates.specs.Gates.{act, inverseOp, fires, applied, inverse}
+use Rattle.gates.specs.Gates.{act, inverseOp, applied, inverse}
+use Rattle.gates.specs.Inner.Firing.{fires}
 use Rattle.gates.proofs.Gates.{applied-yes, applied-no, applied-lt, applied-inverse}
 use Rattle.procedure.proofs.Families.{Asked, Exchanges}
 use Rattle.synthesis.specs.Synthesis.{exchanger, gateFor}

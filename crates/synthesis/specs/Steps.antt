@@ -9,7 +9,7 @@ use Rattle.digits.specs.Digits.{digit, pack}
 use Rattle.gates.specs.declared.Gate.{Gate}
 use Rattle.gates.specs.Gates.{applied}
 use Rattle.gates.specs.Records.{recordOf}
-use Rattle.gates.specs.Words.{bytesIn}
+use Rattle.gates.specs.Inner.Words.{bytesIn}
 use Rattle.procedure.specs.Procedure.{State, digitStep, rowSteps, rows}
 use Rattle.synthesis.specs.Synthesis.{gateFor}
 

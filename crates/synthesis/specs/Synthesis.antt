@@ -8,7 +8,7 @@ use Rattle.digits.specs.Digits.{digit, pack}
 use Rattle.card.specs.Card.{Answer, Answer.accepted, refusing, onLines, after, laid}
 use Rattle.gates.specs.declared.Gate.{Gate}
 use Rattle.gates.specs.Gates.{applied}
-use Rattle.tables.specs.Tables.{tabled}
+use Rattle.tables.specs.Tables.{onTable}
 use Rattle.procedure.specs.Procedure.{cascadeFor}
 use Rattle.cascades.specs.Cascades.{bytesOf}
 
@@ -34,7 +34,7 @@ bound n = n * 3 ^ n - (3 ^ n - 1) / 2
 
 -- 1 2 3 4 5: a room of so many bytes
 unfoldable pub synthesizeAnswer : ℕ → List ℕ → ℕ → Answer
-synthesizeAnswer n t room = onLines n (tabled n t (refusing (ltb (room / 8) (bound n)) 5 (bound n) (accepted (length (synthesized n t) ∷ []))))
+synthesizeAnswer n t room = onLines n (onTable (3 ^ n) t (refusing (ltb (room / 8) (bound n)) 5 (bound n) (accepted (length (synthesized n t) ∷ []))))
 
 unfoldable pub synthesizeRoom : ℕ → List ℕ → List ℕ → List ℕ
 synthesizeRoom n t room = after (synthesizeAnswer n t (length room)) (laid (bytesOf (synthesized n t)) room) room

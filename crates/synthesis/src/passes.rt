@@ -6,7 +6,7 @@ ghost use Prim.Native.Nat.{_*_, _≤_};
 ghost use lib.ListN.{length};
 ghost use lib.Seq.{sets};
 ghost use Rattle.card.specs.Card.{laid};
-ghost use Rattle.gates.specs.Words.{bytesIn};
+ghost use Rattle.gates.specs.Inner.Words.{bytesIn};
 ghost use Rattle.cascades.specs.Cascades.{bytesOf};
 ghost use Rattle.synthesis.specs.Synthesis.{synthesized};
 ghost use Rattle.synthesis.specs.Steps.{Present, Lays};

@@ -4,7 +4,7 @@ ghost use mathlib.Core.Path.{_≡_};
 ghost use mathlib.Core.List.{map};
 ghost use Prim.Native.Nat.{ℕ, _^_, _≤_, _<_};
 ghost use lib.ListN.{length};
-ghost use Rattle.procedure.specs.Exchanges.{exchanged};
+ghost use Rattle.procedure.specs.Inner.Exchanges.{exchanged};
 ghost use Rattle.synthesis.specs.Steps.{rowFrom, Paired, Reached, Lowest, Row, Lays};
 
 // Two values change places in a table and in its inverse.

@@ -1,4 +1,4 @@
--- Which tables are accepted. `tabled-is` says which case `tabled` is, `checked-refused` and `checked-accepted` what a check leaves to the calls that go on,
+-- Which tables are accepted. `on-table-is` says which case `onTable` is, `checked-refused` and `checked-accepted` what a check leaves to the calls that go on,
 -- and `accepted-iff` that a table is accepted exactly if the lines are 1 to 6 and it is a permutation of the patterns.
 -- It rests on what the first entry with a property says of those before it. Assumes nothing.
 use mathlib.Core.Path.{_≡_, sym, ap, _∙_}
@@ -16,9 +16,8 @@ use Rattle.ranges.proofs.Counts.{lt-or-le}
 use Rattle.ranges.proofs.Tests.{some-none, some-not}
 use Rattle.ranges.proofs.Searches.{found}
 use Rattle.card.specs.Card.{Answer, Answer.accepted, Answer.refused, refusing, linesOk, onLines}
-use Rattle.card.proofs.Cards.{refusing-yes, refusing-no}
-use Rattle.card.proofs.Cards.{no-lines, good-lines}
-use Rattle.tables.specs.Tables.{tooLarge, repeated, firstLarge, firstRepeated, tabled, checkTableAnswer}
+use Rattle.card.proofs.Cards.{not-accepted, refusing-yes, refusing-no, no-lines, good-lines}
+use Rattle.tables.specs.Tables.{tooLarge, repeated, firstLarge, firstRepeated, onTable, checkTableAnswer}
 use Rattle.tables.specs.Permutations.{Permutation}
 
 -- ---- the search for the first finds nothing exactly if no number has the property
@@ -31,44 +30,40 @@ none f m h =
     ⊎-elim (λ (e : ltb (first f 0 m) m ≡ true). let l = ltb-true (first f 0 m) m e in clash (f (first f 0 m)) (found f 0 m .hit (omega arith)) (h _ l))
     (λ (e : ltb (first f 0 m) m ≡ false). e) (decide (ltb (first f 0 m) m))
 
--- a refusal accepts nothing
-pub never : {A : Type 0} (k p : ℕ) {vs : List ℕ} → refused k p ≡ accepted vs → A
-never k p e = let z : _≡_ {A = ℕ} 0 1 = cc in absurd (omega arith)
-
--- ---- the cases of `tabled`
+-- ---- the cases of `onTable`
 
 -- the table is refused by number and place, whatever the call would answer
-pub record Refuses (n : ℕ) (t : List ℕ) : Type 0 where
+pub record Refuses (m : ℕ) (t : List ℕ) : Type 0 where
   pub number : ℕ
   pub place : ℕ
-  pub always : (x : Answer) → tabled n t x ≡ refused number place
+  pub always : (x : Answer) → onTable m t x ≡ refused number place
 
-module _ (n : ℕ) (t : List ℕ) where
+module _ (m : ℕ) (t : List ℕ) where
   module _ (x : Answer) where
-    pub tabled-size : (length t ≡ 3 ^ n → ⊥) → tabled n t x ≡ refused 2 0
-    unfolding tabled
-    tabled-size ne = refusing-yes _ 2 0 _ (ap not (ne-eqb (length t) (3 ^ n) ne))
+    pub on-table-size : (length t ≡ m → ⊥) → onTable m t x ≡ refused 2 0
+    unfolding onTable
+    on-table-size ne = refusing-yes _ 2 0 _ (ap not (ne-eqb (length t) m ne))
 
-    module _ (size : length t ≡ 3 ^ n) where
-      sized : (y : Answer) → refusing (not (eqb (length t) (3 ^ n))) 2 0 y ≡ y
-      sized y = refusing-no _ 2 0 y (ap not (eq-eqb (length t) (3 ^ n) size))
+    module _ (size : length t ≡ m) where
+      sized : (y : Answer) → refusing (not (eqb (length t) m)) 2 0 y ≡ y
+      sized y = refusing-no _ 2 0 y (ap not (eq-eqb (length t) m size))
 
-      pub tabled-large : ltb (firstLarge n t) (length t) ≡ true → tabled n t x ≡ refused 3 (firstLarge n t)
-      unfolding tabled
-      tabled-large e = sized _ ∙ refusing-yes _ 3 _ _ e
+      pub on-table-large : ltb (firstLarge m t) (length t) ≡ true → onTable m t x ≡ refused 3 (firstLarge m t)
+      unfolding onTable
+      on-table-large e = sized _ ∙ refusing-yes _ 3 _ _ e
 
-      pub tabled-repeated : ltb (firstLarge n t) (length t) ≡ false → ltb (firstRepeated t) (length t) ≡ true → tabled n t x ≡ refused 4 (firstRepeated t)
-      unfolding tabled
-      tabled-repeated e f = sized _ ∙ refusing-no _ 3 _ _ e ∙ refusing-yes _ 4 _ x f
+      pub on-table-repeated : ltb (firstLarge m t) (length t) ≡ false → ltb (firstRepeated t) (length t) ≡ true → onTable m t x ≡ refused 4 (firstRepeated t)
+      unfolding onTable
+      on-table-repeated e f = sized _ ∙ refusing-no _ 3 _ _ e ∙ refusing-yes _ 4 _ x f
 
-      pub tabled-none : ltb (firstLarge n t) (length t) ≡ false → ltb (firstRepeated t) (length t) ≡ false → tabled n t x ≡ x
-      unfolding tabled
-      tabled-none e f = sized _ ∙ refusing-no _ 3 _ _ e ∙ refusing-no _ 4 _ x f
+      pub on-table-none : ltb (firstLarge m t) (length t) ≡ false → ltb (firstRepeated t) (length t) ≡ false → onTable m t x ≡ x
+      unfolding onTable
+      on-table-none e f = sized _ ∙ refusing-no _ 3 _ _ e ∙ refusing-no _ 4 _ x f
 
   -- where no entry is too large or repeated, the table is a permutation
-  pub entries-below : ltb (firstLarge n t) (length t) ≡ false → (p : ℕ) → p < length t → getD t p 0 < 3 ^ n
+  pub entries-below : ltb (firstLarge m t) (length t) ≡ false → (p : ℕ) → p < length t → getD t p 0 < m
   unfolding firstLarge tooLarge
-  entries-below e p lt = leb-false (3 ^ n) (getD t p 0) (past (tooLarge n t) (length t) e p lt)
+  entries-below e p lt = leb-false m (getD t p 0) (past (tooLarge m t) (length t) e p lt)
 
   earlier-differ : ltb (firstRepeated t) (length t) ≡ false → (p q : ℕ) → p < q → q < length t → getD t p 0 ≡ getD t q 0 → ⊥
   unfolding firstRepeated repeated
@@ -76,21 +71,21 @@ module _ (n : ℕ) (t : List ℕ) where
       eqb-false (getD t p 0) (getD t q 0)
       (some-none (λ j. eqb (getD t j 0) (getD t q 0)) 0 q (past (repeated t) (length t) e q lq) p (omega arith) (omega arith))
 
-  permutation-of : length t ≡ 3 ^ n → ltb (firstLarge n t) (length t) ≡ false → ltb (firstRepeated t) (length t) ≡ false → Permutation 3 n t
+  permutation-of : length t ≡ m → ltb (firstLarge m t) (length t) ≡ false → ltb (firstRepeated t) (length t) ≡ false → Permutation m t
   permutation-of size e f =
       record { size = size; within = λ p lp. entries-below e p (omega arith); apart = λ p q lp lq same. apart p q lp lq same (lt-or-le p q) (lt-or-le q p) }
     where
-      apart : (p q : ℕ) → p < 3 ^ n → q < 3 ^ n → getD t p 0 ≡ getD t q 0 → (p < q) ⊎ (q ≤ p) → (q < p) ⊎ (p ≤ q) → p ≡ q
+      apart : (p q : ℕ) → p < m → q < m → getD t p 0 ≡ getD t q 0 → (p < q) ⊎ (q ≤ p) → (q < p) ⊎ (p ≤ q) → p ≡ q
       apart p q lp lq same (_⊎_.inl l) d = absurd (earlier-differ f p q l (omega arith) same)
       apart p q lp lq same (_⊎_.inr l) (_⊎_.inl g) = absurd (earlier-differ f q p g (omega arith) (sym same))
       apart p q lp lq same (_⊎_.inr l) (_⊎_.inr g) = omega arith
 
   -- and the other way round
-  none-large : Permutation 3 n t → ltb (firstLarge n t) (length t) ≡ false
+  none-large : Permutation m t → ltb (firstLarge m t) (length t) ≡ false
   unfolding firstLarge tooLarge
-  none-large w = none (tooLarge n t) (length t) (λ p lt. lt-leb (3 ^ n) (getD t p 0) (w .within p (omega (arith, w .size))))
+  none-large w = none (tooLarge m t) (length t) (λ p lt. lt-leb m (getD t p 0) (w .within p (omega (arith, w .size))))
 
-  none-repeated : Permutation 3 n t → ltb (firstRepeated t) (length t) ≡ false
+  none-repeated : Permutation m t → ltb (firstRepeated t) (length t) ≡ false
   unfolding firstRepeated repeated
   none-repeated w =
       none (repeated t) (length t)
@@ -98,74 +93,74 @@ module _ (n : ℕ) (t : List ℕ) where
       some-not _ 0 q (λ p le lp. ne-eqb (getD t p 0) (getD t q 0) (λ e. let same = w .apart p q (omega (arith, w .size)) (omega (arith, w .size)) e in omega arith)))
 
   -- a permutation is passed on
-  pub tabled-permutation : Permutation 3 n t → (x : Answer) → tabled n t x ≡ x
-  tabled-permutation w x = tabled-none x (w .size) (none-large w) (none-repeated w)
+  pub on-table-permutation : Permutation m t → (x : Answer) → onTable m t x ≡ x
+  on-table-permutation w x = on-table-none x (w .size) (none-large w) (none-repeated w)
 
   -- a table is a permutation, or always refused
-  pub tabled-is : Permutation 3 n t ⊎ Refuses n t
-  tabled-is = go (decide (eqb (length t) (3 ^ n))) (decide (ltb (firstLarge n t) (length t))) (decide (ltb (firstRepeated t) (length t)))
+  pub on-table-is : Permutation m t ⊎ Refuses m t
+  on-table-is = go (decide (eqb (length t) m)) (decide (ltb (firstLarge m t) (length t))) (decide (ltb (firstRepeated t) (length t)))
     where
-      go : (eqb (length t) (3 ^ n) ≡ true) ⊎ (eqb (length t) (3 ^ n) ≡ false)
-          → (ltb (firstLarge n t) (length t) ≡ true) ⊎ (ltb (firstLarge n t) (length t) ≡ false)
-          → (ltb (firstRepeated t) (length t) ≡ true) ⊎ (ltb (firstRepeated t) (length t) ≡ false) → Permutation 3 n t ⊎ Refuses n t
-      go (_⊎_.inr e) f g = _⊎_.inr (record { number = 2; place = 0; always = λ x. tabled-size x (eqb-false (length t) (3 ^ n) e) })
+      go : (eqb (length t) m ≡ true) ⊎ (eqb (length t) m ≡ false)
+          → (ltb (firstLarge m t) (length t) ≡ true) ⊎ (ltb (firstLarge m t) (length t) ≡ false)
+          → (ltb (firstRepeated t) (length t) ≡ true) ⊎ (ltb (firstRepeated t) (length t) ≡ false) → Permutation m t ⊎ Refuses m t
+      go (_⊎_.inr e) f g = _⊎_.inr (record { number = 2; place = 0; always = λ x. on-table-size x (eqb-false (length t) m e) })
       go (_⊎_.inl e) (_⊎_.inl f) g =
-          _⊎_.inr (record { number = 3; place = firstLarge n t; always = λ x. tabled-large x (eqb-true (length t) (3 ^ n) e) f })
+          _⊎_.inr (record { number = 3; place = firstLarge m t; always = λ x. on-table-large x (eqb-true (length t) m e) f })
       go (_⊎_.inl e) (_⊎_.inr f) (_⊎_.inl g) =
-          _⊎_.inr (record { number = 4; place = firstRepeated t; always = λ x. tabled-repeated x (eqb-true (length t) (3 ^ n) e) f g })
-      go (_⊎_.inl e) (_⊎_.inr f) (_⊎_.inr g) = _⊎_.inl (permutation-of (eqb-true (length t) (3 ^ n) e) f g)
+          _⊎_.inr (record { number = 4; place = firstRepeated t; always = λ x. on-table-repeated x (eqb-true (length t) m e) f g })
+      go (_⊎_.inl e) (_⊎_.inr f) (_⊎_.inr g) = _⊎_.inl (permutation-of (eqb-true (length t) m e) f g)
 
-  -- ---- with refusal 1
+  -- ---- the cases as the check's code meets them
 
-  module _ (ok : linesOk n ≡ true) where
-    -- the cases of the check, as its code meets them
-    pub check-size : (length t ≡ 3 ^ n → ⊥) → refused 2 0 ≡ checkTableAnswer n t
-    unfolding checkTableAnswer
-    check-size ne = sym (good-lines n _ ok ∙ tabled-size (accepted []) ne)
+  pub check-size : (length t ≡ m → ⊥) → refused 2 0 ≡ onTable m t (accepted [])
+  check-size ne = sym (on-table-size (accepted []) ne)
 
-    module _ (size : length t ≡ 3 ^ n) where
-      pub check-large : (i : ℕ) → i ≡ firstLarge n t → i < length t → refused 3 i ≡ checkTableAnswer n t
-      unfolding checkTableAnswer
-      check-large i e lt = ap (refused 3) e ∙ sym (good-lines n _ ok ∙ tabled-large (accepted []) size (lt-ltb (firstLarge n t) (length t) (omega arith)))
+  module _ (size : length t ≡ m) where
+    pub check-large : (i : ℕ) → i ≡ firstLarge m t → i < length t → refused 3 i ≡ onTable m t (accepted [])
+    check-large i e lt = ap (refused 3) e ∙ sym (on-table-large (accepted []) size (lt-ltb (firstLarge m t) (length t) (omega arith)))
 
-      pub check-repeated : (i j : ℕ) → i ≡ firstLarge n t → length t ≤ i → j ≡ firstRepeated t → j < length t → refused 4 j ≡ checkTableAnswer n t
-      unfolding checkTableAnswer
-      check-repeated i j e ge f lt =
-          ap (refused 4) f
-          ∙ sym (good-lines n _ ok ∙ tabled-repeated (accepted []) size (le-ltb (firstLarge n t) (length t) (omega arith)) (lt-ltb (firstRepeated t) (length t) (omega arith)))
+    module _ (i : ℕ) (e : i ≡ firstLarge m t) (ge : length t ≤ i) (j : ℕ) (f : j ≡ firstRepeated t) where
+      few : ltb (firstLarge m t) (length t) ≡ false
+      few = le-ltb (firstLarge m t) (length t) (omega arith)
 
-      pub check-none : (i j : ℕ) → i ≡ firstLarge n t → length t ≤ i → j ≡ firstRepeated t → length t ≤ j → accepted [] ≡ checkTableAnswer n t
-      unfolding checkTableAnswer
-      check-none i j e ge f le =
-          sym (good-lines n _ ok ∙ tabled-none (accepted []) size (le-ltb (firstLarge n t) (length t) (omega arith)) (le-ltb (firstRepeated t) (length t) (omega arith)))
+      pub check-repeated : j < length t → refused 4 j ≡ onTable m t (accepted [])
+      check-repeated lt = ap (refused 4) f ∙ sym (on-table-repeated (accepted []) size few (lt-ltb (firstRepeated t) (length t) (omega arith)))
 
+      pub check-none : length t ≤ j → (accepted [] ≡ onTable m t (accepted [])) × Permutation m t
+      check-none le =
+          let none = le-ltb (firstRepeated t) (length t) (omega arith) in
+          (sym (on-table-none (accepted []) size few none), permutation-of size few none)
+
+-- ---- with refusal 1, on n lines
+
+module _ (n : ℕ) (t : List ℕ) where
   -- what a check refuses, every call on the table refuses alike
-  pub checked-refused : (k p : ℕ) → checkTableAnswer n t ≡ refused k p → (x : Answer) → onLines n (tabled n t x) ≡ refused k p
+  pub checked-refused : (k p : ℕ) → checkTableAnswer n t ≡ refused k p → (x : Answer) → onLines n (onTable (3 ^ n) t x) ≡ refused k p
   unfolding checkTableAnswer
-  checked-refused k p e x = go (decide (linesOk n)) tabled-is
+  checked-refused k p e x = go (decide (linesOk n)) (on-table-is (3 ^ n) t)
     where
-      go : (linesOk n ≡ true) ⊎ (linesOk n ≡ false) → Permutation 3 n t ⊎ Refuses n t → onLines n (tabled n t x) ≡ refused k p
+      go : (linesOk n ≡ true) ⊎ (linesOk n ≡ false) → Permutation (3 ^ n) t ⊎ Refuses (3 ^ n) t → onLines n (onTable (3 ^ n) t x) ≡ refused k p
       go (_⊎_.inr bad) c = no-lines n _ bad ∙ sym (no-lines n _ bad) ∙ e
-      go (_⊎_.inl ok) (_⊎_.inl w) = never k p (sym e ∙ good-lines n _ ok ∙ tabled-permutation w (accepted []))
+      go (_⊎_.inl ok) (_⊎_.inl w) = not-accepted k p [] (sym e ∙ good-lines n _ ok ∙ on-table-permutation (3 ^ n) t w (accepted []))
       go (_⊎_.inl ok) (_⊎_.inr r) = good-lines n _ ok ∙ r .always x ∙ sym (r .always (accepted [])) ∙ sym (good-lines n _ ok) ∙ e
 
-  pub accepted-permutation : checkTableAnswer n t ≡ accepted [] → (linesOk n ≡ true) × Permutation 3 n t
+  pub accepted-permutation : checkTableAnswer n t ≡ accepted [] → (linesOk n ≡ true) × Permutation (3 ^ n) t
   unfolding checkTableAnswer
-  accepted-permutation e = go (decide (linesOk n)) tabled-is
+  accepted-permutation e = go (decide (linesOk n)) (on-table-is (3 ^ n) t)
     where
-      go : (linesOk n ≡ true) ⊎ (linesOk n ≡ false) → Permutation 3 n t ⊎ Refuses n t → (linesOk n ≡ true) × Permutation 3 n t
-      go (_⊎_.inr bad) c = never 1 0 (sym (no-lines n _ bad) ∙ e)
+      go : (linesOk n ≡ true) ⊎ (linesOk n ≡ false) → Permutation (3 ^ n) t ⊎ Refuses (3 ^ n) t → (linesOk n ≡ true) × Permutation (3 ^ n) t
+      go (_⊎_.inr bad) c = not-accepted 1 0 [] (sym (no-lines n _ bad) ∙ e)
       go (_⊎_.inl ok) (_⊎_.inl w) = (ok, w)
-      go (_⊎_.inl ok) (_⊎_.inr r) = never (r .number) (r .place) (sym (r .always (accepted [])) ∙ sym (good-lines n _ ok) ∙ e)
+      go (_⊎_.inl ok) (_⊎_.inr r) = not-accepted (r .number) (r .place) [] (sym (r .always (accepted [])) ∙ sym (good-lines n _ ok) ∙ e)
 
-  pub permutation-passed : linesOk n ≡ true → Permutation 3 n t → (x : Answer) → onLines n (tabled n t x) ≡ x
-  permutation-passed ok w x = good-lines n _ ok ∙ tabled-permutation w x
+  pub permutation-passed : linesOk n ≡ true → Permutation (3 ^ n) t → (x : Answer) → onLines n (onTable (3 ^ n) t x) ≡ x
+  permutation-passed ok w x = good-lines n _ ok ∙ on-table-permutation (3 ^ n) t w x
 
   -- what a check accepts, every call on the table goes on with
-  pub checked-accepted : checkTableAnswer n t ≡ accepted [] → (x : Answer) → onLines n (tabled n t x) ≡ x
+  pub checked-accepted : checkTableAnswer n t ≡ accepted [] → (x : Answer) → onLines n (onTable (3 ^ n) t x) ≡ x
   checked-accepted e = let w = accepted-permutation e in permutation-passed (w .0) (w .1)
 
   -- accepted exactly if the lines are 1 to 6 and the table is a permutation
-  pub accepted-iff : (checkTableAnswer n t ≡ accepted []) ↔ ((linesOk n ≡ true) × Permutation 3 n t)
+  pub accepted-iff : (checkTableAnswer n t ≡ accepted []) ↔ ((linesOk n ≡ true) × Permutation (3 ^ n) t)
   unfolding checkTableAnswer
   accepted-iff = (accepted-permutation, λ w. permutation-passed (w .0) (w .1) (accepted []))

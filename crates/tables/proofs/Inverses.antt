@@ -2,7 +2,7 @@
 -- before exactly if its place names an earlier row that holds it. Assumes nothing.
 use mathlib.Core.Path.{_≡_, sym, ap, _∙_}
 use mathlib.Core.List.{List}
-use Prim.Native.Nat.{ℕ, _+_, _-_, _^_, _≤_, _<_}
+use Prim.Native.Nat.{ℕ, _+_, _-_, _≤_, _<_}
 use native.Mathlib.Nat.{sub-zero}
 use native.Mathlib.Omega.{arith}
 use lib.ListN.{length, getD, set, take}
@@ -15,7 +15,7 @@ use Rattle.ranges.proofs.Tests.{some-hit, some-not}
 use Rattle.ranges.proofs.Searches.{first-more, first-hit, first-ends}
 use Rattle.tables.specs.Tables.{repeated, firstRepeated}
 use Rattle.tables.specs.Permutations.{Permutation}
-use Rattle.tables.specs.Inverses.{Back, Inverted}
+use Rattle.tables.specs.Inner.Inverses.{Back, Inverted}
 
 -- what the pass knows at entry i
 pub record Inverting (t v : List ℕ) (i : ℕ) : Type 0 where
@@ -61,10 +61,10 @@ pub inverting-all : (t v : List ℕ) (i : ℕ) → Inverting t v i → length t 
 inverting-all t v i w le = sym (first-ends (repeated t) (length t) i le) ∙ w .left
 
 -- a permutation whose values all lead back is inverted, in the part of the array that has its size
-pub inverted : (n : ℕ) (t v : List ℕ) (i : ℕ) → Permutation 3 n t → 3 ^ n ≤ length v → length t ≤ i → Back t v i → Inverted n t (take (3 ^ n) v)
-inverted n t v i w room all back =
+pub inverted : (m : ℕ) (t v : List ℕ) (i : ℕ) → Permutation m t → m ≤ length v → length t ≤ i → Back t v i → Inverted m t (take m v)
+inverted m t v i w room all back =
     record {
       perm = w;
-      size = length-take-le (3 ^ n) v room;
-      back = λ p lp. getD-take (3 ^ n) v (getD t p 0) 0 (w .within p lp) ∙ back p (omega (arith, w .size));
+      size = length-take-le m v room;
+      back = λ p lp. getD-take m v (getD t p 0) 0 (w .within p lp) ∙ back p (omega (arith, w .size));
     }

@@ -1,4 +1,4 @@
 pub mod Tables
 pub mod Permutations
-pub mod Inverses
+pub mod Inner
 pub mod Answers

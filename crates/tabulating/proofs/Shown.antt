@@ -16,7 +16,7 @@ use Rattle.digits.proofs.Sizes.{patterns-most}
 use Rattle.digits.proofs.Three.{three}
 use Rattle.gates.specs.declared.Gate.{Gate}
 use Rattle.gates.specs.Gates.{holds, IsGate}
-use Rattle.cascades.specs.Cascades.{ran, tableOf}
+use Rattle.cascades.specs.Cascades.{ran, tableFor, tableOf}
 use Rattle.cascades.proofs.Cascades.{run-lt}
 use Rattle.tabulating.specs.Planes.{Shows, digitOn, entryOf}
 use Rattle.tabulating.proofs.Bits.{bit-value}
@@ -48,7 +48,7 @@ module _ (n : ℕ) (b : List ℕ) (f : ℕ → ℕ) (shows : Shows n b f) (p : �
       (six-digits (f p) small)
 
 pub shown-table : (n : ℕ) (b : List ℕ) (gs : List Gate) → n ≤ 6 → Each (IsGate n) gs → Shows (3 ^ n) b (ran gs) → span (entryOf b) 0 (3 ^ n) ≡ tableOf n gs
-unfolding tableOf
+unfolding tableFor
 shown-table n b gs six each shows =
     span-ext (entryOf b) (ran gs) 0 (3 ^ n)
     (λ p low lt.

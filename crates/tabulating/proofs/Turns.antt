@@ -18,7 +18,8 @@ use Rattle.digits.specs.Digits.{digit}
 use Rattle.digits.proofs.Digits.{digit-lt, digit-put-same, digit-put-other}
 use Rattle.digits.proofs.Three.{three}
 use Rattle.gates.specs.declared.Gate.{Gate}
-use Rattle.gates.specs.Gates.{act, inverseOp, holds, firesOn, fires, applied}
+use Rattle.gates.specs.Gates.{act, inverseOp, holds, firesOn, applied}
+use Rattle.gates.specs.Inner.Firing.{fires}
 use Rattle.gates.proofs.Operators.{act-lt}
 use Rattle.gates.proofs.Gates.{applied-yes, applied-no, holds-none}
 use Rattle.tabulating.specs.Planes.{on, member, Plane, Word, Shows, Turned}
@@ -57,7 +58,7 @@ moved g p d low high ld = go (fires g p) refl
 -- a gate's controls, line by line
 pub all-content : (n : ℕ) (b : List ℕ) (f : ℕ → ℕ) (controls p : ℕ) → Shows n b f → p < n
     → (member b (4 * 0 + digit 4 0 controls) p && (member b (4 * 1 + digit 4 1 controls) p && (member b (4 * 2 + digit 4 2 controls) p && (member b (4 * 3 + digit 4 3 controls) p && (member b (4 * 4 + digit 4 4 controls) p && member b (4 * 5 + digit 4 5 controls) p)))))
-    ≡ firesOn controls (f p)
+    ≡ firesOn 3 controls (f p)
 unfolding firesOn every
 all-content n b f controls p shows lp =
     let line : (k : ℕ) → k < 6 → member b (4 * k + digit 4 k controls) p ≡ holds (digit 4 k controls) (digit 3 k (f p)) =

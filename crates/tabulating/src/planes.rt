@@ -7,7 +7,8 @@ ghost use lib.ListN.{length, getD};
 ghost use lib.Seq.{sets};
 ghost use Rattle.digits.specs.Digits.{digit};
 ghost use Rattle.gates.specs.Gates.{act, inverseOp, holds, firesOn, applied};
-ghost use Rattle.cascades.specs.Cascades.{Whole, gatesOf, ran};
+ghost use Rattle.cascades.specs.Cascades.{gatesOf, ran};
+ghost use Rattle.cascades.specs.Inner.Checked.{Whole};
 ghost use Rattle.tabulating.specs.Planes.{Plane, Word, Shows, Turned};
 use gates::Gate;
 
@@ -31,7 +32,7 @@ fn content(planes: &[u64], controls: u16, line: usize, j: usize) -> u64
 // Word j of the inputs on which a gate with these controls fires.
 fn firing(planes: &[u64], controls: u16, j: usize) -> u64
     requires { ⌜ (length (now planes) ≡ 288) × (j < 12) ⌝ }
-    ensures { λ r. ⌜ ((n : ℕ) (f : ℕ → ℕ) → Shows n (now (planes .entry)) f → Word n j r (λ p. firesOn controls (f p))) ⌝ }
+    ensures { λ r. ⌜ ((n : ℕ) (f : ℕ → ℕ) → Shows n (now (planes .entry)) f → Word n j r (λ p. firesOn 3 controls (f p))) ⌝ }
 {
     let x0 = content(planes, controls, 0, j);
     let x1 = content(planes, controls, 1, j);

@@ -2,7 +2,8 @@
 ghost use mathlib.Core.Path.{_≡_};
 ghost use Prim.Native.Nat.{_^_};
 ghost use lib.ListN.{length};
-ghost use Rattle.cascades.specs.Cascades.{Whole, gatesOf, tableOf};
+ghost use Rattle.cascades.specs.Cascades.{gatesOf, tableOf};
+ghost use Rattle.cascades.specs.Inner.Checked.{Whole};
 
 // The table of a cascade that was checked.
 pub fn write_table(lines: u8, cascade: &[u8], m: usize, table: &mut [u16])

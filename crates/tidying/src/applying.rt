@@ -2,7 +2,7 @@
 ghost use mathlib.Core.Path.{_≡_};
 ghost use Prim.Native.Nat.{_≤_, _<_};
 ghost use lib.ListN.{set};
-ghost use Rattle.gates.specs.Words.{gateOf, GateWord};
+ghost use Rattle.gates.specs.Inner.Words.{gateOf, GateWord};
 ghost use Rattle.rules.specs.Tidying.{ruled};
 ghost use Rattle.rules.specs.Words.{ruleFor};
 ghost use Rattle.remembering.specs.Buffers.{gatesIn, gap, Stands, kept, rank};

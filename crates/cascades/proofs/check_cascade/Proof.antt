@@ -6,7 +6,7 @@ use borrow.Author.Tests.{not-true, not-false}
 use Rattle.card.specs.Card.{linesOk}
 use Rattle.card.proofs.Cards.{no-lines, good-lines}
 use Rattle.cascades.specs.Answers.{lengthOk, checkAnswer}
-use Rattle.cascades.proofs.Answers.{sound-length, sound-at, sound-none}
+use Rattle.cascades.proofs.Answers.{on-records-length, on-records-at, on-records-none}
 use borrow.Author.Needs.{needs}
 use Rattle.cascades.proofs.check_cascade.Statement.{statement}
 use Rattle.cascades.proofs.check_cascade.Tie as tie
@@ -31,7 +31,7 @@ length-ok-requires c κs = search needs
 
 returns-2 : tie.Need-returns-2
 unfolding checkAnswer
-returns-2 c = sym (good-lines _ _ (six (c .before .before)) ∙ sound-length _ _ _ (sym (c .before .length-ok .ensures) ∙ not-true _ (c .if2 .taken)))
+returns-2 c = sym (good-lines _ _ (six (c .before .before)) ∙ on-records-length _ _ _ _ (sym (c .before .length-ok .ensures) ∙ not-true _ (c .if2 .taken)))
 
 first-bad-requires : tie.Need-first-bad-requires
 first-bad-requires c κs = six (c .before .before)
@@ -40,13 +40,13 @@ returns-3 : tie.Need-returns-3
 unfolding checkAnswer
 returns-3 c =
     let d = c .before .before in
-    sym (good-lines _ _ (six (d .before .before)) ∙ sound-at _ _ _ _ (whole d) (sym (c .before .first-bad .ensures)) (c .if3 .taken))
+    sym (good-lines _ _ (six (d .before .before)) ∙ on-records-at _ _ _ _ _ (whole d) (sym (c .before .first-bad .ensures)) (c .if3 .taken))
 
 returns-4 : tie.Need-returns-4
 unfolding checkAnswer
 returns-4 c =
     let d = c .before .before in
-    sym (good-lines _ _ (six (d .before .before)) ∙ sound-none _ _ _ (whole d) (rw (c .before .first-bad .ensures) at (c .if3 .left)))
+    sym (good-lines _ _ (six (d .before .before)) ∙ on-records-none _ _ _ _ (whole d) (rw (c .before .first-bad .ensures) at (c .if3 .left)))
 
 pub check-cascade-spec : {M : Type 1} → statement M
 check-cascade-spec =

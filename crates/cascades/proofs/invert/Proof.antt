@@ -6,12 +6,14 @@ use lib.ListN.{length}
 use borrow.Author.Tests.{lt-ltb, le-ltb}
 use native.Mathlib.Omega.{arith}
 use Rattle.card.proofs.Cards.{refusing-yes, refusing-no, refused-both, accepted-both, sets-laid}
-use Rattle.cascades.specs.Cascades.{records, gatesOf, bytesOf, undoing, Whole}
+use Rattle.cascades.specs.Cascades.{records, gatesOf, bytesOf, undoing}
+use Rattle.cascades.specs.Inner.Checked.{Whole}
 use Rattle.cascades.specs.Answers.{countedAs, invertAnswer, invertRoom}
 use Rattle.cascades.proofs.Cascades.{gates-count}
 use Rattle.cascades.proofs.Undone.{length-undoing}
 use Rattle.cascades.proofs.Stored.{length-bytes}
-use Rattle.cascades.proofs.Answers.{passed, check-whole, check-count, check-refused}
+use Rattle.cascades.proofs.Checks.{passed}
+use Rattle.cascades.proofs.Checks.{check-whole, check-count, check-refused}
 use borrow.Author.Needs.{needs}
 use Rattle.cascades.proofs.invert.Statement.{statement}
 use Rattle.cascades.proofs.invert.Tie as tie

@@ -10,22 +10,22 @@ use borrow.Author.Tests.{not-true, not-false}
 use Rattle.ranges.specs.Ranges.{span}
 use Rattle.card.specs.Card.{Answer.accepted}
 use Rattle.card.proofs.Cards.{lines-are}
+use Rattle.gates.specs.Records.{isRecord}
 use Rattle.gates.specs.declared.Gate.{Gate}
 use Rattle.gates.proofs.Records.{Gives, gives, gives-gate, gives-no}
-use Rattle.cascades.specs.Cascades.{gatesOf}
+use Rattle.cascades.specs.Cascades.{gateIn, gatesOf}
 use Rattle.cascades.specs.Prices.{gatePrice, cascadePrice}
 use Rattle.cascades.specs.Answers.{lengthOk}
-use Rattle.cascades.proofs.Cascades.{gateOf}
 use Rattle.cascades.proofs.Costs.{price-of, price-le, price-more, price-ends}
-use Rattle.cascades.proofs.Answers.{Passing, passing-start, passing-next, length-is, sound-length, sound-bad, sound-good}
+use Rattle.cascades.proofs.Answers.{Passing, passing-start, passing-next, length-is, on-records-length, on-records-bad, on-records-good}
 use borrow.Author.Needs.{needs}
 use Rattle.cascades.proofs.price_on.Statement.{statement}
 use Rattle.cascades.proofs.price_on.Tie as tie
 
 record Going (n v : ℕ) (b : List ℕ) (m cost i : ℕ) : Type 0 where
-  passing : Passing n b m i
+  passing : Passing isRecord n b m i
   small : cost ≤ 85 * i
-  value : cost + cascadePrice v (span (gateOf b) i (m - i)) ≡ cascadePrice v (span (gateOf b) 0 m)
+  value : cost + cascadePrice v (span (gateIn b) i (m - i)) ≡ cascadePrice v (span (gateIn b) 0 m)
 
 abbrev Inv-loop : tie.InvT-loop
 Inv-loop lines value cascade m cost₀ i₀ cost i = Going lines value cascade m cost i
@@ -58,10 +58,10 @@ length-ok-requires : tie.Need-length-ok-requires Inv-loop μ-loop
 length-ok-requires c κs = search needs
 
 returns : tie.Need-returns Inv-loop μ-loop
-returns c = sym (sound-length _ _ _ (sym (c .before .length-ok .ensures) ∙ not-true _ (c .if1 .taken)))
+returns c = sym (on-records-length _ _ _ _ (sym (c .before .length-ok .ensures) ∙ not-true _ (c .if1 .taken)))
 
 loop-holds : tie.Need-loop-holds Inv-loop μ-loop
-loop-holds c = record { passing = passing-start _ _ _; small = search needs; value = rw (zero-add, sub-zero) }
+loop-holds c = record { passing = passing-start _ _ _ _; small = search needs; value = rw (zero-add, sub-zero) }
 
 mul-decode : tie.Need-mul-decode Inv-loop μ-loop
 mul-decode c = search needs
@@ -79,7 +79,7 @@ returns-2 : tie.Need-returns-2 Inv-loop μ-loop
 returns-2 c =
     let d = c .before .before in
     let e = d .before .before .before in
-    sym (sound-bad _ _ _ _ (whole e) (d .before .loop-test .taken)
+    sym (on-records-bad _ _ _ _ _ (whole e) (d .before .loop-test .taken)
     (gives-no _ _ _ _ _ (e .before .before .before .pre) (sym (d .decode .ensures) ∙ c .enum-told .given .1)) (d .before .before .loop .inv .passing))
 
 price-gate-requires : tie.Need-price-gate-requires Inv-loop μ-loop
@@ -100,7 +100,7 @@ loop-again c =
     let i = d .before .loop .inv in
     let lt = d .loop-test .taken in
     record {
-      passing = passing-next _ _ _ _ lt (got (c .before) .is) (i .passing);
+      passing = passing-next _ _ _ _ _ lt (got (c .before) .is) (i .passing);
       small = omega (arith, cheap c, i .small);
       value = rw (paid c, ← got (c .before) .value) (price-more _ _ _ _ _ lt) ∙ i .value;
     }
@@ -110,7 +110,7 @@ unfolding gatesOf
 returns-3 c =
     let i = c .before .loop .inv in
     ap (λ (x : ℕ). accepted (x ∷ [])) (sym (price-ends _ _ _ _ _ (c .loop-test .left)) ∙ i .value)
-    ∙ sym (sound-good _ _ _ _ (whole (c .before .before)) (c .loop-test .left) (i .passing))
+    ∙ sym (on-records-good _ _ _ _ _ (whole (c .before .before)) (c .loop-test .left) (i .passing))
 
 pub price-on-spec : {M : Type 1} → statement M
 price-on-spec =

@@ -5,8 +5,9 @@ use Prim.Native.Nat.{_<_, _^_}
 use borrow.Author.Tests.{not-true, not-false, le-leb, lt-leb}
 use Rattle.card.specs.Card.{linesOk}
 use Rattle.card.proofs.Cards.{no-lines, good-lines, lines-are, refusing-yes, refusing-no}
-use Rattle.cascades.specs.Answers.{countedAs, sound, runAnswer}
-use Rattle.cascades.proofs.Answers.{passed, check-whole, check-refused}
+use Rattle.cascades.specs.Answers.{countedAs, onCascade, runAnswer}
+use Rattle.cascades.proofs.Checks.{passed}
+use Rattle.cascades.proofs.Checks.{check-whole, check-refused}
 use borrow.Author.Needs.{needs}
 use Rattle.cascades.proofs.run.Statement.{statement}
 use Rattle.cascades.proofs.run.Tie as tie
@@ -36,7 +37,7 @@ returns-2 : tie.Need-returns-2
 unfolding runAnswer
 returns-2 c =
     c .run-on .ensures
-    ∙ sym (good-lines _ _ (six (c .before .before .before)) ∙ ap (sound _ _) (refusing-no _ _ _ _ (lt-leb _ _ (within (c .before)))))
+    ∙ sym (good-lines _ _ (six (c .before .before .before)) ∙ ap (onCascade _ _) (refusing-no _ _ _ _ (lt-leb _ _ (within (c .before)))))
 
 check-cascade-requires : tie.Need-check-cascade-requires
 check-cascade-requires c κs = search needs

@@ -12,24 +12,25 @@ use Rattle.digits.proofs.Sizes.{patterns-most}
 use Rattle.ranges.proofs.Lists.{through-nil}
 use Rattle.card.specs.Card.{Answer.accepted}
 use Rattle.card.proofs.Cards.{lines-are}
+use Rattle.gates.specs.Records.{isRecord}
 use Rattle.gates.specs.declared.Gate.{Gate}
 use Rattle.gates.specs.Gates.{applied}
-use Rattle.gates.specs.Quads.{quad}
+use Rattle.gates.specs.Inner.Quads.{quad}
 use Rattle.gates.proofs.Gates.{applied-lt}
 use Rattle.gates.proofs.Records.{Gives, gives, gives-gate, gives-no}
 use Rattle.gates.proofs.Firing.{quad-held}
-use Rattle.cascades.specs.Cascades.{ran, gatesOf}
+use Rattle.cascades.specs.Cascades.{gateIn, ran, gatesOf}
 use Rattle.cascades.specs.Answers.{lengthOk}
-use Rattle.cascades.proofs.Cascades.{gateOf, run-snoc}
-use Rattle.cascades.proofs.Answers.{Passing, passing-start, passing-next, sound-length, sound-bad, sound-good}
+use Rattle.cascades.proofs.Cascades.{run-snoc}
+use Rattle.cascades.proofs.Answers.{Passing, passing-start, passing-next, on-records-length, on-records-bad, on-records-good}
 use borrow.Author.Needs.{needs}
 use Rattle.cascades.proofs.run_on.Statement.{statement}
 use Rattle.cascades.proofs.run_on.Tie as tie
 
 record Going (n : ℕ) (b : List ℕ) (p m q i : ℕ) : Type 0 where
-  passing : Passing n b m i
-  lines : q ≡ quad (ran (span (gateOf b) 0 i) p)
-  below : ran (span (gateOf b) 0 i) p < 3 ^ n
+  passing : Passing isRecord n b m i
+  lines : q ≡ quad (ran (span (gateIn b) 0 i) p)
+  below : ran (span (gateIn b) 0 i) p < 3 ^ n
 
 abbrev Inv-loop : tie.InvT-loop
 Inv-loop lines cascade pattern m q₀ i₀ q i = Going lines cascade pattern m q i
@@ -57,14 +58,14 @@ length-ok-requires : tie.Need-length-ok-requires Inv-loop μ-loop
 length-ok-requires c κs = search needs
 
 returns : tie.Need-returns Inv-loop μ-loop
-returns c = sym (sound-length _ _ _ (sym (c .before .length-ok .ensures) ∙ not-true _ (c .if1 .taken)))
+returns c = sym (on-records-length _ _ _ _ (sym (c .before .length-ok .ensures) ∙ not-true _ (c .if1 .taken)))
 
 quad-of-requires : tie.Need-quad-of-requires Inv-loop μ-loop
 quad-of-requires c κs = omega (arith, c .before .before .before .pre .1, most c)
 
 loop-holds : tie.Need-loop-holds Inv-loop μ-loop
 unfolding span
-loop-holds c = record { passing = passing-start _ _ _; lines = c .quad-of .ensures ∙ ap quad (sym (through-nil applied _)); below = rw (through-nil applied) (c .before .before .before .before .pre .1) }
+loop-holds c = record { passing = passing-start _ _ _ _; lines = c .quad-of .ensures ∙ ap quad (sym (through-nil applied _)); below = rw (through-nil applied) (c .before .before .before .before .pre .1) }
 
 mul-decode : tie.Need-mul-decode Inv-loop μ-loop
 mul-decode c = search needs
@@ -82,7 +83,7 @@ returns-2 : tie.Need-returns-2 Inv-loop μ-loop
 returns-2 c =
     let d = c .before .before in
     let e = d .before .before .before .before in
-    sym (sound-bad _ _ _ _ (whole e) (d .before .loop-test .taken)
+    sym (on-records-bad _ _ _ _ _ (whole e) (d .before .loop-test .taken)
     (gives-no _ _ _ _ _ (e .before .before .before .pre .0) (sym (d .decode .ensures) ∙ c .enum-told .given .1)) (d .before .before .loop .inv .passing))
 
 apply-requires : tie.Need-apply-requires Inv-loop μ-loop
@@ -105,7 +106,7 @@ loop-again c =
     let i = d .before .loop .inv in
     let g = got (c .before) in
     record {
-      passing = passing-next _ _ _ _ (d .loop-test .taken) (g .is) (i .passing);
+      passing = passing-next _ _ _ _ _ (d .loop-test .taken) (g .is) (i .passing);
       lines = c .apply .ensures _ (i .lines) ∙ ap quad (rw (← g .value) (sym (run-snoc _ _ _)));
       below = rw (run-snoc, g .value) (applied-lt _ _ _ (gives-gate _ _ _ _ g .on-line) (i .below));
     }
@@ -121,7 +122,7 @@ returns-3 c =
     let e = s .before .before in
     let all : s .loop .i ≡ length (e .before .before .before .args .cascade .now) / 8 = omega (arith, i .passing .within, c .before .loop-test .left) in
     rw (← all) (ap (λ (x : ℕ). accepted (x ∷ [])) (c .pattern-of .ensures _ (lt-of-lt-of-le (i .below) (most e)) (i .lines)))
-    ∙ sym (sound-good _ _ _ _ (whole e) (c .before .loop-test .left) (i .passing))
+    ∙ sym (on-records-good _ _ _ _ _ (whole e) (c .before .loop-test .left) (i .passing))
 
 pub run-on-spec : {M : Type 1} → statement M
 run-on-spec =

@@ -2,9 +2,10 @@
 use mathlib.Core.Path.{sym, ap, _∙_}
 use native.Mathlib.Omega.{arith}
 use Rattle.card.proofs.Cards.{refused-both, accepted-both, sets-laid}
-use Rattle.cascades.specs.Cascades.{records, Whole}
+use Rattle.cascades.specs.Cascades.{records}
+use Rattle.cascades.specs.Inner.Checked.{Whole}
 use Rattle.cascades.specs.Answers.{countedAs}
-use Rattle.cascades.proofs.Answers.{check-whole, check-refused}
+use Rattle.cascades.proofs.Checks.{check-whole, check-refused}
 use Rattle.files.specs.Files.{fileSize, writeAnswer, writeRoom}
 use Rattle.files.proofs.Frames.{length-file}
 use Rattle.files.proofs.Answers.{write-note-long, write-room-small, write-accepted}

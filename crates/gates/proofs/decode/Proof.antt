@@ -5,7 +5,7 @@ use Prim.Native.Nat.{_+_, _≤_}
 use lib.ListN.{length}
 use borrow.Author.Tests.{not-true, not-false, leb-true}
 use Rattle.card.specs.Card.{linesOk}
-use Rattle.gates.specs.Records.{asRecord}
+use Rattle.gates.specs.Inner.Decoding.{asRecord}
 use Rattle.gates.proofs.Records.{decoded-lines, decoded-not, record-short}
 use Rattle.gates.proofs.Bytes.{word-decoded, word-low}
 use borrow.Author.Needs.{needs}

@@ -6,13 +6,14 @@ use native.Mathlib.Nat.{zero-add}
 use native.Mathlib.Omega.{arith}
 use Rattle.ranges.specs.Ranges.{every}
 use Rattle.digits.specs.Digits.{digit}
-use Rattle.gates.specs.Words.{bytesIn}
+use Rattle.gates.specs.Inner.Words.{bytesIn}
 use Rattle.card.proofs.Cards.{refusing-yes, refusing-no, refused-both, accepted-both, sets-laid}
-use Rattle.cascades.specs.Cascades.{records, gatesOf, Whole}
+use Rattle.cascades.specs.Cascades.{records, gatesOf}
+use Rattle.cascades.specs.Inner.Checked.{Whole}
 use Rattle.cascades.specs.Prices.{cascadePrice}
 use Rattle.cascades.specs.Answers.{pricedAs}
-use Rattle.cascades.proofs.Answers.{passed}
-use Rattle.cascades.proofs.Sounds.{price-whole, price-value, price-refused}
+use Rattle.cascades.proofs.Checks.{passed}
+use Rattle.cascades.proofs.Checks.{price-whole, price-value, price-refused}
 use Rattle.listings.specs.Listings.{nameOf, listingAnswer, listingRoom}
 use Rattle.listings.specs.Pieces.{begins, carries, nameRight, namesRight}
 use Rattle.listings.proofs.Writes.{written-long}

@@ -27,7 +27,7 @@ module _ (c : tie.After-known-told2) where
   abbrev gates : List Gate
   gates = synthesized (start .args .lines) (start .args .table .now)
 
-  perm : Permutation 3 (start .args .lines) (start .args .table .now)
+  perm : Permutation (3 ^ (start .args .lines)) (start .args .table .now)
   perm = made-permutation _ _ _ (start .pre .0) _ (start .pre .1) _ (ap countedAs (sym (c .before .m .given .1)) ∙ c .before .before .before .before .before .synthesize .ensures .0)
 
   count : c .before .m .given .0 .0 ≡ length gates

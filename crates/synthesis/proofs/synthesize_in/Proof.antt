@@ -11,7 +11,7 @@ use Rattle.digits.proofs.Sizes.{patterns-most}
 use Rattle.card.specs.Card.{Answer.accepted}
 use Rattle.card.proofs.Cards.{lines-are}
 use Rattle.tables.specs.Tables.{checkTableAnswer}
-use Rattle.tables.specs.Inverses.{Inverted}
+use Rattle.tables.specs.Inner.Inverses.{Inverted}
 use Rattle.tables.specs.Answers.{checkedAs}
 use Rattle.tables.proofs.Accepts.{accepted-permutation}
 use Rattle.synthesis.proofs.Synthesis.{bound-most, synthesized-bound}
@@ -29,7 +29,7 @@ module _ (c : tie.After-enum-told) where
   good : accepted [] ≡ checkTableAnswer (start .args .lines) (now (start .args .table))
   good = sym (ap checkedAs (c .enum-told .given .1)) ∙ c .before .before .before .before .check-inverting .ensures .0
 
-  inverted : Inverted (start .args .lines) (now (start .args .table)) (take (3 ^ (start .args .lines)) (c .before .before .before .before .check-inverting .last .1 .1 .0))
+  inverted : Inverted (3 ^ (start .args .lines)) (now (start .args .table)) (take (3 ^ (start .args .lines)) (c .before .before .before .before .check-inverting .last .1 .1 .0))
   inverted = c .before .before .before .before .check-inverting .ensures .1 (ap checkedAs (c .enum-told .given .1))
 
   six : start .args .lines ≤ 6

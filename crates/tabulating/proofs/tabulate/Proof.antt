@@ -8,9 +8,11 @@ use borrow.Author.Tests.{lt-ltb, le-ltb}
 use Rattle.ranges.proofs.Spans.{length-span}
 use Rattle.card.specs.Card.{Answer.accepted, laid}
 use Rattle.card.proofs.Cards.{lines-are, refusing-yes, refusing-no, refused-both, accepted-both}
-use Rattle.cascades.specs.Cascades.{gatesOf, tableOf, Whole}
+use Rattle.cascades.specs.Cascades.{gatesOf, tableFor, tableOf}
+use Rattle.cascades.specs.Inner.Checked.{Whole}
 use Rattle.cascades.specs.Answers.{countedAs}
-use Rattle.cascades.proofs.Answers.{passed, check-whole, check-count, check-refused}
+use Rattle.cascades.proofs.Checks.{passed}
+use Rattle.cascades.proofs.Checks.{check-whole, check-count, check-refused}
 use Rattle.tabulating.specs.Tabulating.{tabulateAnswer, tabulateRoom}
 use borrow.Author.Needs.{needs}
 use Rattle.tabulating.proofs.tabulate.Statement.{statement}
@@ -26,7 +28,7 @@ module _ (c : tie.After-known-told2) where
 -- a room that holds the table and the rest of what it held
 module _ (n : ℕ) (b room : List ℕ) (s : ℕ) (size : s ≡ 3 ^ n) where
   written : (new : List ℕ) → new ≡ tableOf n (gatesOf b) → new ++ drop s room ≡ laid (tableOf n (gatesOf b)) room
-  unfolding laid tableOf
+  unfolding laid tableFor
   written new e = rw (e, length-span _ 0 (3 ^ n), size)
 
 check-cascade-requires : tie.Need-check-cascade-requires

@@ -6,6 +6,7 @@ use borrow.Author.Tests.{not-true, not-false}
 use native.Mathlib.Omega.{arith}
 use Rattle.ranges.specs.Ranges.{first}
 use Rattle.ranges.proofs.Searches.{first-more, first-hit, first-ends}
+use Rattle.gates.specs.Records.{isRecord}
 use Rattle.gates.proofs.Bytes.{word-is}
 use Rattle.cascades.specs.Answers.{badRecord, firstBad}
 use borrow.Author.Needs.{needs}
@@ -13,7 +14,7 @@ use Rattle.cascades.proofs.scan.first_bad.Statement.{statement}
 use Rattle.cascades.proofs.scan.first_bad.Tie as tie
 
 abbrev Inv-loop : tie.InvT-loop
-Inv-loop lines cascade count i₀ i = (i ≤ count) × (first (badRecord lines cascade) i (count - i) ≡ firstBad lines cascade)
+Inv-loop lines cascade count i₀ i = (i ≤ count) × (first (badRecord isRecord lines cascade) i (count - i) ≡ firstBad isRecord lines cascade)
 
 abbrev μ-loop : tie.MeasureT-loop
 μ-loop lines cascade count i₀ i = count - i

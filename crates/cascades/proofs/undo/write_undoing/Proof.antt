@@ -9,8 +9,8 @@ use native.Mathlib.Omega.{arith}
 use Rattle.ranges.specs.Ranges.{span}
 use Rattle.gates.specs.declared.Gate.{Gate}
 use Rattle.gates.specs.Gates.{inverse}
-use Rattle.cascades.specs.Cascades.{records, bytesOf, Whole}
-use Rattle.cascades.proofs.Cascades.{gateOf}
+use Rattle.cascades.specs.Cascades.{gateIn, records, bytesOf}
+use Rattle.cascades.specs.Inner.Checked.{Whole}
 use Rattle.cascades.proofs.Stored.{stored-more, stored-ends, undoing-span}
 use borrow.Author.Needs.{needs}
 use Rattle.cascades.proofs.undo.write_undoing.Statement.{statement}
@@ -18,7 +18,7 @@ use Rattle.cascades.proofs.undo.write_undoing.Tie as tie
 
 -- gate i of the inverse
 abbrev back : List ℕ → ℕ → ℕ → Gate
-back b m i = inverse (gateOf b (m - (i + 1)))
+back b m i = inverse (gateIn b (m - (i + 1)))
 
 record Going (n : ℕ) (b : List ℕ) (m : ℕ) (room₀ room : List ℕ) (i : ℕ) : Type 0 where
   whole : Whole n b m

@@ -9,7 +9,7 @@ use Rattle.card.specs.Card.{linesOk}
 use Rattle.card.proofs.Cards.{no-lines, good-lines}
 use Rattle.gates.proofs.Records.{gives, gives-no}
 use Rattle.cascades.specs.Answers.{lengthOk}
-use Rattle.cascades.proofs.Answers.{Passing, passing-start, passing-next, sound-length, sound-bad, sound-good}
+use Rattle.cascades.proofs.Answers.{Passing, passing-start, passing-next, on-records-length, on-records-bad, on-records-good}
 use Rattle.files.proofs.frame.gates_between.Statement.{statement}
 use Rattle.files.proofs.frame.gates_between.Tie as tie
 
@@ -37,10 +37,10 @@ length-ok-requires : tie.Need-length-ok-requires Inv-loop μ-loop
 length-ok-requires c κs = search needs
 
 returns-2 : tie.Need-returns-2 Inv-loop μ-loop
-returns-2 c = sym (good-lines _ _ (six (c .before .before)) ∙ sound-length _ _ _ (sym (c .before .length-ok .ensures) ∙ not-true _ (c .if2 .taken)))
+returns-2 c = sym (good-lines _ _ (six (c .before .before)) ∙ on-records-length _ _ _ _ (sym (c .before .length-ok .ensures) ∙ not-true _ (c .if2 .taken)))
 
 loop-holds : tie.Need-loop-holds Inv-loop μ-loop
-loop-holds c = passing-start _ _ _
+loop-holds c = passing-start _ _ _ _
 
 mul-decode : tie.Need-mul-decode Inv-loop μ-loop
 mul-decode c = search needs
@@ -59,7 +59,7 @@ returns-3 c =
     let d = c .before .before in
     let e = d .before .before .before in
     sym (good-lines _ _ (six (e .before .before))
-    ∙ sound-bad _ _ _ _ (whole e) (d .before .loop-test .taken) (gives-no _ _ _ _ _ (six (e .before .before)) (sym (d .decode .ensures) ∙ c .enum-told2 .given .1)) (d .before .before .loop .inv))
+    ∙ on-records-bad _ _ _ _ _ (whole e) (d .before .loop-test .taken) (gives-no _ _ _ _ _ (six (e .before .before)) (sym (d .decode .ensures) ∙ c .enum-told2 .given .1)) (d .before .before .loop .inv))
 
 add-i : tie.Need-add-i Inv-loop μ-loop
 add-i c = search needs
@@ -70,12 +70,12 @@ loop-less c = search needs
 loop-again : tie.Need-loop-again Inv-loop μ-loop
 loop-again c =
     let d = c .before .before in
-    passing-next _ _ _ _ (d .before .loop-test .taken) (gives _ _ _ _ _ _ (sym (d .decode .ensures) ∙ c .enum-told .given .1) .is) (d .before .before .loop .inv)
+    passing-next _ _ _ _ _ (d .before .loop-test .taken) (gives _ _ _ _ _ _ (sym (d .decode .ensures) ∙ c .enum-told .given .1) .is) (d .before .before .loop .inv)
 
 returns-4 : tie.Need-returns-4 Inv-loop μ-loop
 returns-4 c =
     let e = c .before .before in
-    sym (good-lines _ _ (six (e .before .before)) ∙ sound-good _ _ _ _ (whole e) (c .loop-test .left) (c .before .loop .inv))
+    sym (good-lines _ _ (six (e .before .before)) ∙ on-records-good _ _ _ _ _ (whole e) (c .loop-test .left) (c .before .loop .inv))
 
 pub gates-between-spec : {M : Type 1} → statement M
 gates-between-spec =

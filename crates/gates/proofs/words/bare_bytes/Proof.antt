@@ -2,7 +2,7 @@
 use Prim.Native.Nat.{_*_, _/_, _≤_}
 use native.Mathlib.Omega.{arith}
 use native.Mathlib.Nat.{div-mul-le-self}
-use Rattle.gates.specs.Words.{bare}
+use Rattle.gates.specs.Inner.Words.{bare}
 use Rattle.gates.proofs.Bytes.{weight-most, weight-some}
 use borrow.Author.Needs.{needs}
 use Rattle.gates.proofs.words.bare_bytes.Statement.{statement}

@@ -1,7 +1,7 @@
 -- `gates::words::gate_of` meets its contract. Assumes nothing.
 use mathlib.Core.Path.{sym}
 use Rattle.digits.proofs.Digits.{digit-zero}
-use Rattle.gates.specs.Words.{gateOf}
+use Rattle.gates.specs.Inner.Words.{gateOf}
 use Rattle.gates.proofs.Bytes.{byte-one}
 use borrow.Author.Needs.{needs}
 use Rattle.gates.proofs.words.gate_of.Statement.{statement}

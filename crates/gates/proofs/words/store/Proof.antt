@@ -4,7 +4,7 @@ use native.Mathlib.Numerals.{add-one, add-two, add-three, add-four, add-five, ad
 use lib.ListN.{length-set}
 use native.Mathlib.Omega.{arith}
 use Rattle.digits.specs.Digits.{digit}
-use Rattle.gates.specs.Words.{bytesIn}
+use Rattle.gates.specs.Inner.Words.{bytesIn}
 use borrow.Author.Needs.{needs}
 use Rattle.gates.proofs.words.store.Statement.{statement}
 use Rattle.gates.proofs.words.store.Tie as tie

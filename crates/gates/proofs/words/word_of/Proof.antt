@@ -4,7 +4,7 @@ use native.Mathlib.Nat.{div-one}
 use native.Mathlib.Omega.{arith}
 use Rattle.digits.specs.Digits.{digit}
 use Rattle.gates.specs.Records.{recordOf}
-use Rattle.gates.specs.Words.{bytesIn}
+use Rattle.gates.specs.Inner.Words.{bytesIn}
 use Rattle.gates.proofs.Bytes.{eight-bytes, word-spread}
 use borrow.Author.Needs.{needs}
 use Rattle.gates.proofs.words.word_of.Statement.{statement}

@@ -5,7 +5,7 @@ use Prim.Native.Nat.{_+_, _/_, _%_, _<_}
 use lib.ListN.{length, set}
 use native.Mathlib.Omega.{arith}
 use Rattle.ranges.specs.Ranges.{span}
-use Rattle.gates.specs.Words.{gateOf}
+use Rattle.gates.specs.Inner.Words.{gateOf}
 use Rattle.listings.specs.Listings.{nameOf, lineText, controlText, joined, gateText}
 use Rattle.listings.specs.Pieces.{Laid}
 use Rattle.listings.proofs.Layouts.{word-parts}

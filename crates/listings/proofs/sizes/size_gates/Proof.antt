@@ -10,8 +10,8 @@ use Rattle.ranges.specs.Ranges.{span}
 use Rattle.card.proofs.Cards.{lines-are}
 use Rattle.gates.proofs.Bytes.{word-gate}
 use Rattle.gates.proofs.Records.{gate-at}
-use Rattle.cascades.specs.Cascades.{Whole, gatesOf}
-use Rattle.cascades.proofs.Cascades.{gateOf}
+use Rattle.cascades.specs.Cascades.{gateIn, gatesOf}
+use Rattle.cascades.specs.Inner.Checked.{Whole}
 use Rattle.listings.specs.Listings.{gateText, gateTexts}
 use Rattle.listings.proofs.Layouts.{gates-more, gates-end}
 use Rattle.listings.proofs.Lengths.{gate-most}
@@ -22,7 +22,7 @@ use Rattle.listings.proofs.sizes.size_gates.Tie as tie
 record Going (b : List ℕ) (m size i : ℕ) : Type 0 where
   within : i ≤ m
   small : size ≤ 31 * i
-  left : size + length (gateTexts (span (gateOf b) i (m - i))) ≡ length (gateTexts (span (gateOf b) 0 m))
+  left : size + length (gateTexts (span (gateIn b) i (m - i))) ≡ length (gateTexts (span (gateIn b) 0 m))
 
 abbrev Inv-loop : tie.InvT-loop
 Inv-loop names lines cascade m size₀ i₀ size i = Going cascade m size i
@@ -31,21 +31,21 @@ abbrev μ-loop : tie.MeasureT-loop
 μ-loop names lines cascade m size₀ i₀ size i = m - i
 
 module _ (n : ℕ) (b : List ℕ) (m size i : ℕ) (whole : Whole n b m) (g : Going b m size i) (lt : i < m) where
-  one : length (gateText (gateOf b i)) ≤ 31
+  one : length (gateText (gateIn b i)) ≤ 31
   one =
       let six = lines-are n (whole .lines) .1 in
-      gate-most n (gateOf b i) six (gate-at n b (8 * i) six (whole .each i lt))
+      gate-most n (gateIn b i) six (gate-at n b (8 * i) six (whole .each i lt))
 
-  turn : Going b m (size + length (gateText (gateOf b i))) (i + 1)
+  turn : Going b m (size + length (gateText (gateIn b i))) (i + 1)
   turn =
       record {
         within = omega arith;
         small = omega (arith, one, g .small);
-        left = omega (arith, g .left, ap length (gates-more (gateOf b) m i lt), length-append (gateText (gateOf b i)) (gateTexts (span (gateOf b) (i + 1) (m - (i + 1)))));
+        left = omega (arith, g .left, ap length (gates-more (gateIn b) m i lt), length-append (gateText (gateIn b i)) (gateTexts (span (gateIn b) (i + 1) (m - (i + 1)))));
       }
 
 module _ (c : tie.After-size-gate Inv-loop μ-loop) where
-  size-is : c .size-gate .result ≡ length (gateText (gateOf (c .before .before .before .before .before .before .args .cascade .now) (c .before .before .before .loop .i)))
+  size-is : c .size-gate .result ≡ length (gateText (gateIn (c .before .before .before .before .before .before .args .cascade .now) (c .before .before .before .loop .i)))
   size-is = c .size-gate .ensures ∙ rw (word-gate _ _ _ (c .before .word-at .ensures))
 
 loop-holds : tie.Need-loop-holds Inv-loop μ-loop
@@ -81,7 +81,7 @@ loop-again c =
 
 returns : tie.Need-returns Inv-loop μ-loop
 unfolding gatesOf
-returns c = omega (arith, c .before .loop .inv .left, ap length (gates-end (gateOf (c .before .before .before .before .args .cascade .now)) _ _ (c .loop-test .left)))
+returns c = omega (arith, c .before .loop .inv .left, ap length (gates-end (gateIn (c .before .before .before .before .args .cascade .now)) _ _ (c .loop-test .left)))
 
 pub size-gates-spec : {M : Type 1} → statement M
 size-gates-spec =

@@ -5,7 +5,8 @@ use Prim.Native.Nat.{ℕ, _+_, _≤_}
 use lib.ListN.{length}
 use native.Mathlib.Omega.{arith}
 use Rattle.card.proofs.Cards.{lines-are}
-use Rattle.cascades.specs.Cascades.{Whole, records, gatesOf}
+use Rattle.cascades.specs.Cascades.{records, gatesOf}
+use Rattle.cascades.specs.Inner.Checked.{Whole}
 use Rattle.cascades.specs.Prices.{cascadePrice}
 use Rattle.cascades.proofs.Cascades.{gates-count, gates-good}
 use Rattle.listings.specs.Texts.{width}

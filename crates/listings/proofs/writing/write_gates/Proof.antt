@@ -8,8 +8,7 @@ use lib.Seq.{length-take-le}
 use native.Mathlib.Omega.{arith}
 use Rattle.ranges.specs.Ranges.{span}
 use Rattle.gates.proofs.Bytes.{word-gate}
-use Rattle.cascades.specs.Cascades.{records, gatesOf}
-use Rattle.cascades.proofs.Cascades.{gateOf}
+use Rattle.cascades.specs.Cascades.{gateIn, records, gatesOf}
 use Rattle.listings.specs.Listings.{gateText, gateTexts}
 use Rattle.listings.specs.Pieces.{Writing}
 use Rattle.listings.proofs.Layouts.{gates-more, gates-end}
@@ -23,7 +22,7 @@ use Rattle.listings.proofs.writing.write_gates.Tie as tie
 record Going (b line₀ room₀ : List ℕ) (at m : ℕ) (line room : List ℕ) (to i : ℕ) : Type 0 where
   within : i ≤ m
   line-long : length line ≡ length line₀
-  writing : Writing room₀ at (gateTexts (gatesOf b)) room to (gateTexts (span (gateOf b) i (m - i)))
+  writing : Writing room₀ at (gateTexts (gatesOf b)) room to (gateTexts (span (gateIn b) i (m - i)))
 
 abbrev Inv-loop : tie.InvT-loop
 Inv-loop names lines cascade line₀ room₀ at m to₀ i₀ line room to i = Going cascade line₀ room₀ at m line room to i
@@ -36,11 +35,11 @@ module _ (c : tie.After-put-gate Inv-loop μ-loop) where
   end-within = omega (arith, c .put-gate .ensures .1, c .put-gate .ensures .0 .long, c .before .before .before .before .loop .inv .line-long, c .before .before .before .before .before .before .before .before .before .pre .2)
 
   -- what was laid is gate i's line, and it is the first piece of what is left
-  laid : take (c .put-gate .result) (c .put-gate .last .1 .1 .0) ≡ gateText (gateOf (c .before .before .before .before .before .before .before .before .before .args .cascade .now) (c .before .before .before .before .loop .i))
+  laid : take (c .put-gate .result) (c .put-gate .last .1 .1 .0) ≡ gateText (gateIn (c .before .before .before .before .before .before .before .before .before .args .cascade .now) (c .before .before .before .before .loop .i))
   laid = c .put-gate .ensures .0 .starts ∙ rw (word-gate _ _ _ (c .before .before .word-at .ensures))
 
   next : (let a = c .before .before .before .before .before .before .before .before .before .args in let d = c .before .before .before .before .loop in
-      Writing (a .room .now) (a .at) (gateTexts (gatesOf (a .cascade .now))) (d .room) (d .to) (gateText (gateOf (a .cascade .now) (d .i)) ++ gateTexts (span (gateOf (a .cascade .now)) (d .i + 1) (records (a .cascade .now) - (d .i + 1)))))
+      Writing (a .room .now) (a .at) (gateTexts (gatesOf (a .cascade .now))) (d .room) (d .to) (gateText (gateIn (a .cascade .now) (d .i)) ++ gateTexts (span (gateIn (a .cascade .now)) (d .i + 1) (records (a .cascade .now) - (d .i + 1)))))
   next = rw (gates-more _ _ _ (c .before .before .before .loop-test .taken)) at (c .before .before .before .before .loop .inv .writing)
 
 loop-holds : tie.Need-loop-holds Inv-loop μ-loop
@@ -69,7 +68,7 @@ write-text-requires c κs =
     let d = c .before .before .before .before in
     let b = d .before .before .before .before .before .before .before .before .before .args .cascade .now in
     let i = d .before .before .before .before .loop .i in
-    rw (laid d) (piece-fits (gateText (gateOf b i)) (gateTexts (span (gateOf b) (i + 1) (records b - (i + 1)))) (next d) (d .before .before .before .before .before .before .before .before .before .pre .3))
+    rw (laid d) (piece-fits (gateText (gateIn b i)) (gateTexts (span (gateIn b) (i + 1) (records b - (i + 1)))) (next d) (d .before .before .before .before .before .before .before .before .before .pre .3))
 
 add-i : tie.Need-add-i Inv-loop μ-loop
 add-i c = search needs

@@ -4,7 +4,7 @@ use Prim.Native.Nat.{_<_}
 use native.Mathlib.Omega.{arith}
 use lib.ListN.{length}
 use borrow.Author.Tests.{not-false}
-use Rattle.gates.specs.Words.{gateOf, GateWord}
+use Rattle.gates.specs.Inner.Words.{gateOf, GateWord}
 use Rattle.rules.specs.Places.{mayChange}
 use Rattle.rules.specs.Rules.{fits}
 use Rattle.remembering.specs.Buffers.{gatesIn}

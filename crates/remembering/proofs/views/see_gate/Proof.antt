@@ -2,7 +2,7 @@
 use mathlib.Core.Path.{_≡_, ap, _∙_}
 use borrow.Author.Tests.{eq-eqb}
 use Rattle.ranges.proofs.Bools.{clash}
-use Rattle.gates.specs.Words.{gateOf, GateWord}
+use Rattle.gates.specs.Inner.Words.{gateOf, GateWord}
 use Rattle.remembering.specs.Buffers.{isGap}
 use Rattle.remembering.specs.Views.{againstOf, kindOf}
 use Rattle.remembering.proofs.Words.{gate-word, word-known}

@@ -3,7 +3,7 @@ use native.Mathlib.Omega.{arith}
 use Prim.Native.Nat.{_+_, _-_, _*_, _/_, _<_}
 use mathlib.Core.Path.{_≡_}
 use Rattle.digits.proofs.Bits.{digit-of-zero}
-use Rattle.gates.specs.Words.{gateOf}
+use Rattle.gates.specs.Inner.Words.{gateOf}
 use Rattle.gates.proofs.Marks.{marks-lt}
 use Rattle.remembering.specs.Views.{shunned}
 use Rattle.remembering.proofs.Stretches.{shun-sum, shunned-lt}

@@ -4,7 +4,7 @@ use Prim.Native.Nat.{ℕ, _*_, _<_}
 use native.Mathlib.Omega.{arith}
 use lib.ListN.{length}
 use Rattle.gates.specs.declared.Gate.{Gate}
-use Rattle.gates.specs.Words.{gateOf}
+use Rattle.gates.specs.Inner.Words.{gateOf}
 use Rattle.gates.proofs.Bytes.{control-byte, word-gate, operator-word, target-word}
 use Rattle.rules.specs.Tidying.{gate}
 use Rattle.remembering.specs.Buffers.{gatesIn}

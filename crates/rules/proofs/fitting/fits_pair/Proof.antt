@@ -1,6 +1,6 @@
 -- `rules::fitting::fits_pair` meets its contract: a rule fits where the one that fits is not nothing. Assumes nothing.
 use mathlib.Core.Path.{_≡_, sym, ap, _∙_}
-use Rattle.gates.specs.Words.{gateOf}
+use Rattle.gates.specs.Inner.Words.{gateOf}
 use Rattle.rules.specs.declared.fitting.Rule.{Rule}
 use Rattle.rules.specs.Rules.{fits}
 use Rattle.rules.proofs.Pairs.{isRule, rule-fits}

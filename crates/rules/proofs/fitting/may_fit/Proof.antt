@@ -5,7 +5,7 @@ use lib.Dec.{eqb}
 use borrow.Author.Tests.{ne-eqb}
 use Rattle.ranges.proofs.Bools.{clash}
 use Rattle.gates.specs.Gates.{inverseOp}
-use Rattle.gates.specs.Words.{gateOf}
+use Rattle.gates.specs.Inner.Words.{gateOf}
 use Rattle.gates.proofs.Bytes.{operator-word, target-word}
 use Rattle.rules.specs.Rules.{sameLines, cancels, merges, reduces}
 use Rattle.rules.specs.Words.{ruleFor}

@@ -3,7 +3,7 @@ use mathlib.Core.Path.{_≡_, sym, _∙_}
 use mathlib.Core.Bool.{true}
 use lib.Dec.{eqb}
 use borrow.Author.Tests.{eq-eqb, ne-eqb, not-true, not-false}
-use Rattle.gates.specs.Words.{gateOf}
+use Rattle.gates.specs.Inner.Words.{gateOf}
 use Rattle.gates.proofs.Bytes.{byte-high}
 use Rattle.rules.specs.Rules.{sameLines}
 use Rattle.rules.proofs.Pairs.{rule-lines}

@@ -5,7 +5,7 @@ use Prim.Native.Nat.{_*_, _/_, _%_, _^_}
 use Rattle.digits.specs.Digits.{digit}
 use Rattle.digits.proofs.Digits.{digit-lt}
 use Rattle.gates.specs.Gates.{control}
-use Rattle.gates.specs.Words.{gateOf}
+use Rattle.gates.specs.Inner.Words.{gateOf}
 use Rattle.gates.proofs.Bytes.{eight-bits}
 use Rattle.rules.proofs.Words.{control-in}
 use borrow.Author.Needs.{needs}

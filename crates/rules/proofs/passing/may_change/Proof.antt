@@ -3,7 +3,7 @@ use mathlib.Core.Path.{_≡_, refl}
 use mathlib.Core.Bool.{Bool, true, false, cond, not, _||_}
 use lib.Dec.{eqb}
 use lib.Bits.{bitOr}
-use Rattle.gates.specs.Words.{gateOf}
+use Rattle.gates.specs.Inner.Words.{gateOf}
 use Rattle.rules.specs.Places.{blocks, clashes, mayChange}
 use Rattle.rules.proofs.passing.may_change.Statement.{statement}
 use Rattle.rules.proofs.passing.may_change.Tie as tie

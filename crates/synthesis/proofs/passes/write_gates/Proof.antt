@@ -5,7 +5,7 @@ use Prim.Native.Nat.{ℕ, _-_, _*_, _≤_}
 use lib.ListN.{length, drop}
 use lib.Seq.{sets, length-sets}
 use native.Mathlib.Omega.{arith}
-use Rattle.gates.specs.Words.{bytesIn}
+use Rattle.gates.specs.Inner.Words.{bytesIn}
 use Rattle.synthesis.proofs.Layings.{store-more, store-ends}
 use borrow.Author.Needs.{needs}
 use Rattle.synthesis.proofs.passes.write_gates.Statement.{statement}

@@ -12,13 +12,10 @@ use Rattle.tables.proofs.entries.first_large.Statement.{statement}
 use Rattle.tables.proofs.entries.first_large.Tie as tie
 
 abbrev Inv-loop : tie.InvT-loop
-Inv-loop n table size i₀ i = (i ≤ length table) × (first (tooLarge n table) i (length table - i) ≡ firstLarge n table)
+Inv-loop patterns table i₀ i = (i ≤ length table) × (first (tooLarge patterns table) i (length table - i) ≡ firstLarge patterns table)
 
 abbrev μ-loop : tie.MeasureT-loop
-μ-loop n table size i₀ i = length table - i
-
-power-requires : tie.Need-power-requires Inv-loop μ-loop
-power-requires c κs = search needs
+μ-loop patterns table i₀ i = length table - i
 
 loop-holds : tie.Need-loop-holds Inv-loop μ-loop
 unfolding firstLarge
@@ -33,7 +30,7 @@ shared-slice-read-if1 c = search needs
 returns : tie.Need-returns Inv-loop μ-loop
 unfolding tooLarge
 returns c =
-    sym (first-hit _ _ _ (c .before .before .loop-test .taken) (le-leb _ _ (rw (c .before .before .before .before .power .ensures) at (c .if1 .taken))))
+    sym (first-hit _ _ _ (c .before .before .loop-test .taken) (le-leb _ _ (c .if1 .taken)))
     ∙ c .before .before .before .loop .inv .1
 
 add-i : tie.Need-add-i Inv-loop μ-loop
@@ -46,7 +43,7 @@ loop-again : tie.Need-loop-again Inv-loop μ-loop
 unfolding tooLarge
 loop-again c = (
   search needs,
-  first-more _ _ _ (c .before .before .loop-test .taken) (lt-leb _ _ (rw (c .before .before .before .before .power .ensures) at (c .if1 .left)))
+  first-more _ _ _ (c .before .before .loop-test .taken) (lt-leb _ _ (c .if1 .left))
       ∙ c .before .before .before .loop .inv .1,
 )
 
@@ -59,7 +56,6 @@ first-large-spec =
     (tie.spec
     Inv-loop
     μ-loop
-    power-requires
     loop-holds
     mul-if1
     shared-slice-read-if1

@@ -12,8 +12,9 @@ use Rattle.gates.specs.declared.Gate.{Gate}
 use Rattle.gates.specs.Gates.{applied, IsGate}
 use Rattle.gates.proofs.Records.{gate-at}
 use Rattle.gates.proofs.Bytes.{word-is, word-gate, word-low}
-use Rattle.cascades.specs.Cascades.{Whole, gatesOf, ran}
-use Rattle.cascades.proofs.Cascades.{gateOf, run-snoc}
+use Rattle.cascades.specs.Cascades.{gateIn, gatesOf, ran}
+use Rattle.cascades.specs.Inner.Checked.{Whole}
+use Rattle.cascades.proofs.Cascades.{run-snoc}
 use Rattle.tabulating.specs.Planes.{Shows}
 use Rattle.tabulating.proofs.Turns.{shows-ext}
 use borrow.Author.Needs.{needs}
@@ -25,7 +26,7 @@ record Going (n : ℕ) (b : List ℕ) (m : ℕ) (planes₀ planes new : List ℕ
   within : i ≤ m
   long : length planes ≡ 288
   size : length new ≡ 36
-  shows : (count : ℕ) (f : ℕ → ℕ) → Shows count planes₀ f → Shows count planes (λ p. ran (span (gateOf b) 0 i) (f p))
+  shows : (count : ℕ) (f : ℕ → ℕ) → Shows count planes₀ f → Shows count planes (λ p. ran (span (gateIn b) 0 i) (f p))
 
 abbrev Inv-loop : tie.InvT-loop
 Inv-loop lines cascade m planes₀ new₀ i₀ planes new i = Going lines cascade m planes₀ planes new i
@@ -39,7 +40,7 @@ module _ (c : tie.In-loop Inv-loop μ-loop) where
 
 -- the gate that a turn acts with
 module _ (c : tie.After-gate-of Inv-loop μ-loop) where
-  is : c .gate-of .result ≡ gateOf (c .before .before .before .before .before .before .before .before .args .cascade .now) (c .before .before .before .before .loop .i)
+  is : c .gate-of .result ≡ gateIn (c .before .before .before .before .before .before .before .before .args .cascade .now) (c .before .before .before .before .loop .i)
   is = c .gate-of .ensures ∙ sym (word-gate _ _ _ (c .before .before .word-at .ensures))
 
   good : IsGate (c .before .before .before .before .before .before .before .before .args .lines) (c .gate-of .result)
@@ -56,7 +57,7 @@ loop-holds c =
       within = omega arith;
       long = start .pre .1;
       size = start .pre .2;
-      shows = λ count f. shows-ext count _ f _ (λ p. sym (rw (span-none (gateOf _) 0) (through-nil applied (f p))));
+      shows = λ count f. shows-ext count _ f _ (λ p. sym (rw (span-none (gateIn _) 0) (through-nil applied (f p))));
     }
 
 mul-word-at : tie.Need-mul-word-at Inv-loop μ-loop

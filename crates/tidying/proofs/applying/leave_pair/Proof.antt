@@ -1,6 +1,6 @@
 -- `tidying::applying::leave_pair` meets its contract: each arm is a case of `leftBy`. Assumes nothing.
 use mathlib.Core.Path.{_≡_, sym, ap, ap₂, _∙_}
-use Rattle.gates.specs.Words.{gateOf}
+use Rattle.gates.specs.Inner.Words.{gateOf}
 use Rattle.gates.specs.Gates.{inverse}
 use Rattle.rules.specs.declared.fitting.Rule.{Rule}
 use Rattle.rules.specs.declared.fitting.Left.{Left}

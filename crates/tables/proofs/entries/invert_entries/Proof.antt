@@ -1,4 +1,4 @@
--- `tables::entries::invert` meets its contract: the values of the entries so far lead back to their rows, and are apart. Assumes nothing.
+-- `tables::entries::invert_entries` meets its contract: the values of the entries so far lead back to their rows, and are apart. Assumes nothing.
 use mathlib.Core.Path.{_≡_, refl}
 use mathlib.Core.Logic.{⊎-elim}
 use Prim.Native.Nat.{_-_, _<_}
@@ -8,8 +8,8 @@ use native.Mathlib.Omega.{arith}
 use Rattle.tables.proofs.Inverses.{Inverting, inverting-none, stood, inverting-more, inverting-all}
 use borrow.Author.Tests.{eqb-true, eqb-false}
 use borrow.Author.Needs.{needs}
-use Rattle.tables.proofs.entries.invert.Statement.{statement}
-use Rattle.tables.proofs.entries.invert.Tie as tie
+use Rattle.tables.proofs.entries.invert_entries.Statement.{statement}
+use Rattle.tables.proofs.entries.invert_entries.Tie as tie
 
 abbrev Inv-loop : tie.InvT-loop
 Inv-loop table inverse₀ i₀ inverse i = (length inverse ≡ length inverse₀) × Inverting table inverse i
@@ -91,8 +91,8 @@ same-length-2 c = search needs
 returns-2 : tie.Need-returns-2 Inv-loop μ-loop
 returns-2 c = (inverting-all _ _ _ (c .before .loop .inv .1) (c .loop-test .left), c .before .loop .inv .1 .back)
 
-pub invert-spec : {M : Type 1} → statement M
-invert-spec =
+pub invert-entries-spec : {M : Type 1} → statement M
+invert-entries-spec =
     tie.close
     (tie.spec
     Inv-loop

@@ -1,4 +1,5 @@
--- A record as one number, its first byte lowest: what is asked of its bytes is asked of all at once.
+-- A record as one number, its first byte lowest: byte 0 is the operator, byte 1 the target, byte 2 + k the control of line k. What is asked of its bytes
+-- is asked of all at once.
 use Prim.Native.Nat.{ℕ, _+_, _*_, _/_, _%_, _^_, _≤_, _<_}
 use mathlib.Core.Path.{_≡_}
 use mathlib.Core.Bool.{Bool, cond, _&&_}
@@ -34,12 +35,13 @@ isWord n w = (leb 1 (byte 0 w) && leb (byte 0 w) 5) && ltb (byte 1 w) n && lines
 unfoldable pub gateOf : ℕ → Gate
 gateOf w = record { operator = byte 0 w; target = byte 1 w; controls = pack 4 (λ k. byte (2 + k) w) 6 }
 
--- 3 in the byte of each line that can have no control: the target, and those from n up
+-- 3 in the byte of each line that can have no control: the target, and those from n up. The six bytes of 3 lose those below line n, and what is left is
+-- moved up beyond the operator's byte and the target's.
 unfoldable pub bare : ℕ → ℕ → ℕ
-bare n t = 65536 * (3311470314243 / 256 ^ n * 256 ^ n + 3 * 256 ^ t)
+bare n t = 0x1_0000 * (0x0303_0303_0303 / 256 ^ n * 256 ^ n + 3 * 256 ^ t)
 
 -- its control bytes are below 4, as a gate's are
-pub record Low (w : ℕ) : Type 0 where
+pub record LowControls (w : ℕ) : Type 0 where
   pub each : (k : ℕ) → k < 6 → byte (2 + k) w < 4
 
 -- what is known of the number that the record of a gate is, or of what stands where a gate has gone: operator 0 on line 6
@@ -47,7 +49,7 @@ pub record GateWord (w : ℕ) : Type 0 where
   pub small : w < 256 ^ 8
   pub op-high : w % 256 ≤ 5
   pub on-line : w / 256 % 256 ≤ 6
-  pub lines : Low w
+  pub lines : LowControls w
 
 -- ---- six bytes at once: 1 for each of which something holds
 

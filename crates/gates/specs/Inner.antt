@@ -1,0 +1,4 @@
+pub mod Decoding
+pub mod Firing
+pub mod Quads
+pub mod Words
