@@ -17,9 +17,9 @@ use Rattle.tabulating.specs.Tabulating.{tabulateAnswer, tabulateRoom}
 use Rattle.synthesis.specs.Synthesis.{bound, synthesized, synthesizeAnswer, synthesizeRoom}
 use Rattle.rules.specs.Tidying.{tidied, tidyAnswer, tidyBuffer}
 use Rattle.choice.specs.Choice.{secondWins, chooseAnswer}
-use Rattle.files.specs.Files.{fileSize, linesIn, count, startOf, trailerAt, recordsOf, framed, writeAnswer, writeRoom, readAnswer, readRecords, readNote}
-use Rattle.files.specs.Readers.{openingAnswer, recordStands, asGiven, givenAs, givenAt, placeAfter, turnAt}
-use Rattle.files.specs.declared.Given.{Given}
+use Rattle.files.specs.Files.{fileSize, linesIn, count, startOf, trailerAt, recordsOf, framed, openingOf, openingAnswer, writeAnswer, writeRoom, readAnswer, readRecords, readNote}
+use Rattle.readers.specs.Readers.{recordStands, asGiven, givenAs, givenAt, placeAfter, turnAt}
+use Rattle.readers.specs.declared.Given.{Given}
 use Rattle.listings.specs.Listings.{listingText, listingAnswer, listingRoom}
 use Rattle.sheets.specs.Sheets.{linesOf, entriesOf, fileAnswer, sheetText, sheetAnswer, sheetRoom}
 use Rattle.demands.specs.Rows.{Row, decided, FirstIs, NoneApplies}
@@ -108,9 +108,9 @@ choose n v b c =
     (cond (secondWins v (gatesOf b) (gatesOf c)) 2 1 ∷ [])
 
 pub write-file : (n : ℕ) (b note : List ℕ) (room : ℕ)
-    → Exactly (writeAnswer n b note room) (row1 n ∷ row6 b ∷ row7 n b ∷ row9-note note ∷ row5 room (fileSize note b) ∷ []) (fileSize note b ∷ [])
+    → Exactly (writeAnswer n b note room) (row1 n ∷ row6 b ∷ row7 n b ∷ row9-note note ∷ row5 room (fileSize 8 note b) ∷ []) (fileSize 8 note b ∷ [])
 unfolding writeAnswer onLines onRecords decided
-write-file n b note room = exactly (row1 n ∷ row6 b ∷ row7 n b ∷ row9-note note ∷ row5 room (fileSize note b) ∷ []) (fileSize note b ∷ [])
+write-file n b note room = exactly (row1 n ∷ row6 b ∷ row7 n b ∷ row9-note note ∷ row5 room (fileSize 8 note b) ∷ []) (fileSize 8 note b ∷ [])
 
 pub write-file-kept : (n : ℕ) (b note room : List ℕ) → Kept (writeAnswer n b note (length room)) (writeRoom n b note room) room
 unfolding writeRoom
@@ -118,12 +118,12 @@ write-file-kept n b note room = kept (writeAnswer n b note (length room)) _ room
 
 pub read-file : (f : List ℕ) (room noteRoom : ℕ)
     → Exactly (readAnswer f room noteRoom)
-    (row9 f ∷ row1 (linesIn f) ∷ row6 (recordsOf f) ∷ row7 (linesIn f) (recordsOf f) ∷ row5 (room / 8) (count f) ∷ row5 noteRoom (startOf f) ∷ [])
-    (linesIn f ∷ count f ∷ startOf f ∷ [])
+    (row9 f ∷ row1 (linesIn f) ∷ row6 (recordsOf 8 f) ∷ row7 (linesIn f) (recordsOf 8 f) ∷ row5 (room / 8) (count f) ∷ row5 noteRoom (startOf 8 f) ∷ [])
+    (linesIn f ∷ count f ∷ startOf 8 f ∷ [])
 unfolding readAnswer framed onLines onRecords decided
 read-file f room noteRoom =
-    exactly (row9 f ∷ row1 (linesIn f) ∷ row6 (recordsOf f) ∷ row7 (linesIn f) (recordsOf f) ∷ row5 (room / 8) (count f) ∷ row5 noteRoom (startOf f) ∷ [])
-    (linesIn f ∷ count f ∷ startOf f ∷ [])
+    exactly (row9 f ∷ row1 (linesIn f) ∷ row6 (recordsOf 8 f) ∷ row7 (linesIn f) (recordsOf 8 f) ∷ row5 (room / 8) (count f) ∷ row5 noteRoom (startOf 8 f) ∷ [])
+    (linesIn f ∷ count f ∷ startOf 8 f ∷ [])
 
 pub read-file-kept : (f room noteRoom : List ℕ) → Kept (readAnswer f (length room) (length noteRoom)) (readRecords f room noteRoom) room
 unfolding readRecords
@@ -134,9 +134,9 @@ unfolding readNote
 read-note-kept f room noteRoom = kept (readAnswer f (length room) (length noteRoom)) _ noteRoom
 
 pub opening : (f : List ℕ)
-    → Exactly (openingAnswer f) (row9 f ∷ row1 (linesIn f) ∷ row6 (recordsOf f) ∷ row7 (linesIn f) (recordsOf f) ∷ []) (linesIn f ∷ startOf f ∷ trailerAt f ∷ [])
-unfolding openingAnswer framed onLines onRecords decided
-opening f = exactly (row9 f ∷ row1 (linesIn f) ∷ row6 (recordsOf f) ∷ row7 (linesIn f) (recordsOf f) ∷ []) (linesIn f ∷ startOf f ∷ trailerAt f ∷ [])
+    → Exactly (openingAnswer f) (row9 f ∷ row1 (linesIn f) ∷ row6 (recordsOf 8 f) ∷ row7 (linesIn f) (recordsOf 8 f) ∷ []) (linesIn f ∷ startOf 8 f ∷ trailerAt 8 f ∷ [])
+unfolding openingOf framed onLines onRecords decided
+opening f = exactly (row9 f ∷ row1 (linesIn f) ∷ row6 (recordsOf 8 f) ∷ row7 (linesIn f) (recordsOf 8 f) ∷ []) (linesIn f ∷ startOf 8 f ∷ trailerAt 8 f ∷ [])
 
 -- the values are the gate's where a record stands, and else the end's
 pub next : (n : ℕ) (f : List ℕ) (at end : ℕ)

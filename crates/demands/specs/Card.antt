@@ -12,7 +12,7 @@ use Rattle.cascades.specs.Cascades.{records}
 use Rattle.cascades.specs.Answers.{lengthOk, firstBad}
 use Rattle.choice.specs.Choice.{firstDifference}
 use Rattle.files.specs.Files.{frameOk}
-use Rattle.files.specs.Readers.{recordStands}
+use Rattle.readers.specs.Readers.{recordStands}
 use Rattle.demands.specs.Rows.{Row}
 
 -- lines not 1 to 6
@@ -53,7 +53,7 @@ row8 n p = record { applies = leb (3 ^ n) p; number = 8; place = 0 }
 
 -- file frame wrong
 abbrev pub row9 : List ℕ → Row
-row9 f = record { applies = not (frameOk f); number = 9; place = 0 }
+row9 f = record { applies = not (frameOk 8 1 f); number = 9; place = 0 }
 
 -- note over 1,024 bytes
 abbrev pub row9-note : List ℕ → Row

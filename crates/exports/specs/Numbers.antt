@@ -3,8 +3,8 @@ use Prim.Native.Nat.{ℕ, _+_, _*_}
 use mathlib.Core.List.{[], _∷_}
 use lib.ListN.{getD}
 use Rattle.card.specs.Card.{Answer, Answer.accepted, Answer.refused, number, place, values}
-use Rattle.files.specs.declared.Given.{Given}
-use Rattle.files.specs.declared.Turn.{Turn}
+use Rattle.readers.specs.declared.Given.{Given}
+use Rattle.readers.specs.declared.Turn.{Turn}
 use Rattle.exports.specs.declared.Numbers.{Numbers}
 
 -- number (0 for accepted), place, and the first three values; those that an answer doesn't have are 0

@@ -7,8 +7,8 @@ ghost use Rattle.cascades.specs.Answers.{checkAnswer, runAnswer, invertAnswer, 
 ghost use Rattle.tabulating.specs.Tabulating.{tabulateAnswer, tabulateRoom};
 ghost use Rattle.rules.specs.Tidying.{tidyAnswer, tidyBuffer};
 ghost use Rattle.choice.specs.Choice.{chooseAnswer};
-ghost use Rattle.files.specs.Files.{writeAnswer, writeRoom, readAnswer, readRecords, readNote};
-ghost use Rattle.files.specs.Readers.{openingAnswer, turnAt};
+ghost use Rattle.files.specs.Files.{writeAnswer, writeRoom, readAnswer, readRecords, readNote, openingAnswer};
+ghost use Rattle.readers.specs.Readers.{turnAt};
 ghost use Rattle.listings.specs.Listings.{listingAnswer, listingRoom};
 ghost use Rattle.sheets.specs.Sheets.{sheetAnswer, sheetRoom};
 ghost use Rattle.exports.specs.Numbers.{numbers, turnAs};
@@ -126,7 +126,7 @@ pub extern "C" fn tiles_opening(file: &[u8]) -> Numbers
 pub extern "C" fn tiles_next(file: &[u8], lines: u8, place: usize, end: usize) -> Numbers
     ensures { λ r. ⌜ r ≡ numbers (turnAs (turnAt (now (file .entry)) lines place end)) ⌝ }
 {
-    let turn = files::turn_at(file, lines, place, end);
+    let turn = readers::turn_at(file, lines, place, end);
     let given = turn.given;
     answers::handed(given, turn.at)
 }

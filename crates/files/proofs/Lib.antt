@@ -1,6 +1,5 @@
-pub mod Numbers
+pub mod NumberBytes
 pub mod Frames
-pub mod Answers
+pub mod Openings
+pub mod Transfers
 pub mod RoundTrips
-pub mod Turns
-pub mod Readers

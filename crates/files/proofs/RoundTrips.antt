@@ -11,9 +11,9 @@ use Rattle.card.proofs.Cards.{accepted-both}
 use Rattle.cascades.specs.Cascades.{records}
 use Rattle.cascades.specs.Inner.Checked.{Whole}
 use Rattle.files.specs.Files.{fileOf, fileSize, writeAnswer, writeRoom, count, linesIn, startOf, noteOf, recordsOf, readAnswer, readRecords, readNote}
-use Rattle.files.proofs.Numbers.{Bytes}
-use Rattle.files.proofs.Frames.{Right, length-file, file-lines, file-count, file-start, file-note, file-records, file-right, file-again, length-note, length-records, records-count, parts-end, trailer-fits}
-use Rattle.files.proofs.Answers.{read-says, read-accepted, write-says, write-accepted}
+use Rattle.files.proofs.NumberBytes.{Bytes}
+use Rattle.files.proofs.Frames.{Right, fileWith, file-with, length-file, with-lines, with-count, with-start, with-note, with-records, with-right, file-again, length-note, length-records, records-count, parts-end, trailer-fits}
+use Rattle.files.proofs.Transfers.{read-says, read-accepted, write-says, write-accepted}
 
 -- the start of a room is what was laid there
 front : (k : ℕ) (xs room : List ℕ) → length xs ≡ k → take k (laid xs room) ≡ xs
@@ -36,27 +36,27 @@ pub record GivesFile (n : ℕ) (b note f room : List ℕ) : Type 0 where
   pub the-file : writeRoom n b note room ≡ laid f room
 
 -- the bytes that were written
-written : (n : ℕ) (b note room : List ℕ) (vs : List ℕ) → writeAnswer n b note (length room) ≡ accepted vs → take (fileSize note b) (writeRoom n b note room) ≡ fileOf n note b
+written : (n : ℕ) (b note room : List ℕ) (vs : List ℕ) → writeAnswer n b note (length room) ≡ accepted vs → take (fileSize 8 note b) (writeRoom n b note room) ≡ fileOf n note b
 unfolding writeRoom
-written n b note room vs e = rw (left _ vs (laid (fileOf n note b) room) room e) (front (fileSize note b) (fileOf n note b) room (length-file n note b))
+written n b note room vs e = rw (left _ vs (laid (fileOf n note b) room) room e) (front (fileSize 8 note b) (fileOf n note b) room (length-file n note b))
 
 read-file-of : (n : ℕ) (b note room noteRoom : List ℕ) → Whole n b (records b) → length note ≤ 1024 → records b ≤ length room / 8 → length note ≤ length noteRoom
     → GivesBack n b note (fileOf n note b) room noteRoom
 unfolding readRecords readNote
 read-file-of n b note room noteRoom w short fits fits′ =
-    let f : List ℕ = fileOf n note b in
-    let r = file-right n note b w short in
-    let lines = file-lines n note b in
-    let many = file-count n note b w in
-    let start = file-start n note b w in
-    let bytes = file-records n note b w in
-    let whole : Whole (linesIn (fileOf n note b)) (recordsOf (fileOf n note b)) (count (fileOf n note b)) = rw (lines, bytes, many) w in
-    let answer = read-accepted (fileOf n note b) room noteRoom r whole (rw many fits) (rw start fits′) in
-    record {
+    let r = with-right [] 1 n note b w short in
+    let lines = with-lines [] 1 n note b in
+    let many = with-count [] 1 n note b w in
+    let start = with-start [] 1 n note b w in
+    let bytes = with-records [] 1 n note b w in
+    let whole : Whole (linesIn (fileWith [] 1 n note b)) (recordsOf 8 (fileWith [] 1 n note b)) (count (fileWith [] 1 n note b)) = rw (lines, bytes, many) w in
+    let answer = read-accepted (fileWith [] 1 n note b) room noteRoom r whole (rw many fits) (rw start fits′) in
+    rw (file-with n note b)
+    (record {
       answer = answer ∙ rw (lines, many, start);
-      the-records = left _ _ (laid (recordsOf (fileOf n note b)) room) room answer ∙ rw bytes;
-      the-note = left _ _ (laid (noteOf (fileOf n note b)) noteRoom) noteRoom answer ∙ rw (file-note n note b w);
-    }
+      the-records = left _ _ (laid (recordsOf 8 (fileWith [] 1 n note b)) room) room answer ∙ rw bytes;
+      the-note = left _ _ (laid (noteOf 8 (fileWith [] 1 n note b)) noteRoom) noteRoom answer ∙ rw (with-note [] 1 n note b w);
+    })
 
 -- reading what was written
 pub read-written : (n : ℕ) (b note room : List ℕ) (s : ℕ) → writeAnswer n b note (length room) ≡ accepted (s ∷ [])
@@ -64,17 +64,17 @@ pub read-written : (n : ℕ) (b note room : List ℕ) (s : ℕ) → writeAnswer 
     → GivesBack n b note (take s (writeRoom n b note room)) recordRoom noteRoom
 read-written n b note room s e recordRoom noteRoom fits fits′ =
     let w = write-says n b note (length room) (accepted (s ∷ [])) e in
-    let size : s ≡ fileSize note b = cc (w .is) in
+    let size : s ≡ fileSize 8 note b = cc (w .is) in
     rw (size, written n b note room (s ∷ []) e) (read-file-of n b note recordRoom noteRoom (w .whole) (w .short) fits fits′)
 
-write-file-of : (f room : List ℕ) → Bytes f → Right f → Whole (linesIn f) (recordsOf f) (count f) → length f ≤ length room → GivesFile (linesIn f) (recordsOf f) (noteOf f) f room
+write-file-of : (f room : List ℕ) → Bytes f → Right 8 1 f → Whole (linesIn f) (recordsOf 8 f) (count f) → length f ≤ length room → GivesFile (linesIn f) (recordsOf 8 f) (noteOf 8 f) f room
 unfolding writeRoom fileSize
 write-file-of f room bytes r w fits =
-    let size : fileSize (noteOf f) (recordsOf f) ≡ length f = omega (arith, length-note f r, length-records f r, parts-end f r, trailer-fits f r) in
-    let answer = write-accepted (linesIn f) (recordsOf f) (noteOf f) (length room) (rw (records-count f r) w) (rw (length-note f r) (r .short-note)) (rw size fits) in
+    let size : fileSize 8 (noteOf 8 f) (recordsOf 8 f) ≡ length f = omega (arith, length-note 8 1 f r, length-records 8 1 f r, parts-end 8 1 f r, trailer-fits 8 1 f r) in
+    let answer = write-accepted (linesIn f) (recordsOf 8 f) (noteOf 8 f) (length room) (rw (records-count 8 1 f r) w) (rw (length-note 8 1 f r) (r .short-note)) (rw size fits) in
     record {
       answer = answer ∙ rw size;
-      the-file = left _ _ (laid (fileOf (linesIn f) (noteOf f) (recordsOf f)) room) room answer ∙ rw (file-again f r bytes);
+      the-file = left _ _ (laid (fileOf (linesIn f) (noteOf 8 f) (recordsOf 8 f)) room) room answer ∙ rw (file-again f r bytes);
     }
 
 -- writing what was read
@@ -87,7 +87,7 @@ written-read f recordRoom noteRoom n m k bytes e room fits =
     let r = g .opens .framed-right in
     let en : n ≡ linesIn f = cc (g .is) in
     let em : m ≡ count f = cc (g .is) in
-    let ek : k ≡ startOf f = cc (g .is) in
-    let long : length (recordsOf f) ≡ 8 * m = length-records f r ∙ r .eight ∙ rw em in
-    rw (left _ _ (laid (recordsOf f) recordRoom) recordRoom e, left _ _ (laid (noteOf f) noteRoom) noteRoom e, front (8 * m) (recordsOf f) recordRoom long, front k (noteOf f) noteRoom (length-note f r ∙ sym ek), en)
+    let ek : k ≡ startOf 8 f = cc (g .is) in
+    let long : length (recordsOf 8 f) ≡ 8 * m = length-records 8 1 f r ∙ r .eight ∙ rw em in
+    rw (left _ _ (laid (recordsOf 8 f) recordRoom) recordRoom e, left _ _ (laid (noteOf 8 f) noteRoom) noteRoom e, front (8 * m) (recordsOf 8 f) recordRoom long, front k (noteOf 8 f) noteRoom (length-note 8 1 f r ∙ sym ek), en)
     (write-file-of f room bytes r (g .opens .whole) fits)

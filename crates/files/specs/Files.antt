@@ -1,4 +1,5 @@
--- The cascade file, edition 1: a note, the records, and a trailer of 8 bytes that points back.
+-- The cascade file: a note, the records, and a trailer that points back. What holds of every edition is said over the trailer's size z and the
+-- edition e; the calls write and read edition 1, with a trailer of 8 bytes.
 use Prim.Native.Nat.{ℕ, _+_, _-_, _*_, _/_}
 use mathlib.Core.Bool.{Bool, not, _&&_}
 use mathlib.Core.List.{List, [], _∷_, _++_}
@@ -11,6 +12,7 @@ use Rattle.cascades.specs.Cascades.{records}
 use Rattle.cascades.specs.Answers.{onCascade}
 use Rattle.files.specs.declared.Written.{Written}
 use Rattle.files.specs.declared.ReadBack.{ReadBack}
+use Rattle.files.specs.declared.Extent.{Extent}
 
 -- ---- the document's number and values for each case of an answer
 
@@ -21,6 +23,10 @@ writtenAs (Written.Refused k p) = refused k p
 abbrev pub readAs : ReadBack → Answer
 readAs (ReadBack.Parts n m s) = accepted (n ∷ m ∷ s ∷ [])
 readAs (ReadBack.Refused k p) = refused k p
+
+abbrev pub openingAs : Extent → Answer
+openingAs (Extent.Frame n at end) = accepted (n ∷ at ∷ end ∷ [])
+openingAs (Extent.Refused k p) = refused k p
 
 -- ---- numbers in bytes, low byte first
 
@@ -33,75 +39,88 @@ numberAt k f at = pack 256 (λ i. getD f (at + i) 0) k
 
 -- ---- writing
 
--- the trailer of m records on n lines: the distance back to the first record, the count, the lines, the edition
-unfoldable pub trailer : ℕ → ℕ → List ℕ
-trailer n m = littleEndian 4 (8 * m) ++ littleEndian 2 m ++ (n ∷ 1 ∷ [])
+-- the last eight bytes of a file of edition e with m records on n lines: the distance from the trailer's first byte back to the first record,
+-- the count, the lines, the edition
+unfoldable pub trailer : ℕ → ℕ → ℕ → List ℕ
+trailer e n m = littleEndian 4 (8 * m) ++ littleEndian 2 m ++ (n ∷ e ∷ [])
 
 -- the file of a note and a cascade on n lines
 unfoldable pub fileOf : ℕ → List ℕ → List ℕ → List ℕ
-fileOf n note b = note ++ b ++ trailer n (records b)
+fileOf n note b = note ++ b ++ trailer 1 n (records b)
 
-unfoldable pub fileSize : List ℕ → List ℕ → ℕ
-fileSize note b = length note + length b + 8
+-- its size with a trailer of z bytes
+unfoldable pub fileSize : ℕ → List ℕ → List ℕ → ℕ
+fileSize z note b = length note + length b + z
 
 -- 1 6 7, 9 for the note, 5: a room of so many bytes
 unfoldable pub writeAnswer : ℕ → List ℕ → List ℕ → ℕ → Answer
 writeAnswer n b note room =
-    onLines n (onCascade n b (refusing (ltb 1024 (length note)) 9 0 (refusing (ltb room (fileSize note b)) 5 (fileSize note b) (accepted (fileSize note b ∷ [])))))
+    onLines n (onCascade n b (refusing (ltb 1024 (length note)) 9 0 (refusing (ltb room (fileSize 8 note b)) 5 (fileSize 8 note b) (accepted (fileSize 8 note b ∷ [])))))
 
 unfoldable pub writeRoom : ℕ → List ℕ → List ℕ → List ℕ → List ℕ
 writeRoom n b note room = after (writeAnswer n b note (length room)) (laid (fileOf n note b) room) room
 
 -- ---- reading
 
--- where the trailer begins, and what it says
-unfoldable pub trailerAt : List ℕ → ℕ
-trailerAt f = length f - 8
+-- where the last eight bytes begin, and what they say
+unfoldable pub tailAt : List ℕ → ℕ
+tailAt f = length f - 8
 
 unfoldable pub distance : List ℕ → ℕ
-distance f = numberAt 4 f (trailerAt f)
+distance f = numberAt 4 f (tailAt f)
 
 unfoldable pub count : List ℕ → ℕ
-count f = numberAt 2 f (trailerAt f + 4)
+count f = numberAt 2 f (tailAt f + 4)
 
 unfoldable pub linesIn : List ℕ → ℕ
-linesIn f = getD f (trailerAt f + 6) 0
+linesIn f = getD f (tailAt f + 6) 0
 
 unfoldable pub edition : List ℕ → ℕ
-edition f = getD f (trailerAt f + 7) 0
+edition f = getD f (tailAt f + 7) 0
+
+-- where a trailer of z bytes begins
+unfoldable pub trailerAt : ℕ → List ℕ → ℕ
+trailerAt z f = length f - z
 
 -- where the first record stands, which is also how long the note is
-unfoldable pub startOf : List ℕ → ℕ
-startOf f = trailerAt f - distance f
+unfoldable pub startOf : ℕ → List ℕ → ℕ
+startOf z f = trailerAt z f - distance f
 
-unfoldable pub noteOf : List ℕ → List ℕ
-noteOf f = take (startOf f) f
+unfoldable pub noteOf : ℕ → List ℕ → List ℕ
+noteOf z f = take (startOf z f) f
 
-unfoldable pub recordsOf : List ℕ → List ℕ
-recordsOf f = take (distance f) (drop (startOf f) f)
+unfoldable pub recordsOf : ℕ → List ℕ → List ℕ
+recordsOf z f = take (distance f) (drop (startOf z f) f)
 
--- 8 bytes or more, edition 1, the distance 8 times the count and not beyond the file's start, a note of at most 1,024 bytes
-unfoldable pub frameOk : List ℕ → Bool
-frameOk f =
-    leb 8 (length f)
-    && eqb (edition f) 1
+-- z bytes or more, edition e, the distance 8 times the count and not beyond the file's start, a note of at most 1,024 bytes
+unfoldable pub frameOk : ℕ → ℕ → List ℕ → Bool
+frameOk z e f =
+    leb z (length f)
+    && eqb (edition f) e
     && eqb (distance f) (8 * count f)
-    && leb (distance f) (trailerAt f)
-    && leb (startOf f) 1024
+    && leb (distance f) (trailerAt z f)
+    && leb (startOf z f) 1024
 
 -- 9 1 6 7 of the file f, and else the answer x
-unfoldable pub framed : List ℕ → Answer → Answer
-framed f x = refusing (not (frameOk f)) 9 0 (onLines (linesIn f) (onCascade (linesIn f) (recordsOf f) x))
+unfoldable pub framed : ℕ → ℕ → List ℕ → Answer → Answer
+framed z e f x = refusing (not (frameOk z e f)) 9 0 (onLines (linesIn f) (onCascade (linesIn f) (recordsOf z f) x))
+
+-- 9 1 6 7, and else the lines, the place of the first record and the offset where the records end
+unfoldable pub openingOf : ℕ → ℕ → List ℕ → Answer
+openingOf z e f = framed z e f (accepted (linesIn f ∷ startOf z f ∷ trailerAt z f ∷ []))
+
+abbrev pub openingAnswer : List ℕ → Answer
+openingAnswer f = openingOf 8 1 f
 
 -- 9 1 6 7, 5 for the records' room, 5 for the note's: rooms of so many bytes
 unfoldable pub readAnswer : List ℕ → ℕ → ℕ → Answer
 readAnswer f room noteRoom =
-    framed f
+    framed 8 1 f
     (refusing (ltb (room / 8) (count f)) 5 (count f)
-    (refusing (ltb noteRoom (startOf f)) 5 (startOf f) (accepted (linesIn f ∷ count f ∷ startOf f ∷ []))))
+    (refusing (ltb noteRoom (startOf 8 f)) 5 (startOf 8 f) (accepted (linesIn f ∷ count f ∷ startOf 8 f ∷ []))))
 
 unfoldable pub readRecords : List ℕ → List ℕ → List ℕ → List ℕ
-readRecords f room noteRoom = after (readAnswer f (length room) (length noteRoom)) (laid (recordsOf f) room) room
+readRecords f room noteRoom = after (readAnswer f (length room) (length noteRoom)) (laid (recordsOf 8 f) room) room
 
 unfoldable pub readNote : List ℕ → List ℕ → List ℕ → List ℕ
-readNote f room noteRoom = after (readAnswer f (length room) (length noteRoom)) (laid (noteOf f) noteRoom) noteRoom
+readNote f room noteRoom = after (readAnswer f (length room) (length noteRoom)) (laid (noteOf 8 f) noteRoom) noteRoom

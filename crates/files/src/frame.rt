@@ -1,12 +1,11 @@
-// The frame of a file: its trailer's numbers, whether they are right, and the gates that it points back to.
+// The frame of a file with a trailer of a size, in an edition: the trailer's numbers, whether they are right, and the gates that it points back to.
 ghost use mathlib.Core.Path.{_≡_};
 ghost use mathlib.Core.List.{_∷_, []};
 ghost use Prim.Native.Nat.{_+_, _^_, _≤_, _<_};
 ghost use lib.ListN.{length};
 ghost use Rattle.card.specs.Card.{onLines, Answer.accepted};
 ghost use Rattle.cascades.specs.Answers.{onCascade};
-ghost use Rattle.files.specs.Files.{numberAt, frameOk};
-ghost use Rattle.files.specs.Readers.{openingAs, recordStands};
+ghost use Rattle.files.specs.Files.{openingAs, numberAt, frameOk, openingOf};
 use crate::Extent;
 use gates::Record;
 
@@ -28,20 +27,23 @@ pub fn number_at(k: usize, file: &[u8], at: usize) -> usize
 }
 
 // The frame is right: refusal 9 otherwise.
-pub fn frame_ok(file: &[u8]) -> bool
-    ensures { λ r. ⌜ r ≡ frameOk (now (file .entry)) ⌝ }
+pub fn frame_ok(file: &[u8], size: usize, edition: u8) -> bool
+    requires { ⌜ 8 ≤ size ⌝ }
+    ensures { λ r. ⌜ r ≡ frameOk size edition (now (file .entry)) ⌝ }
 {
-    if file.len() < 8 {
+    if file.len() < size {
         return false;
     }
-    let end = file.len() - 8;
-    if file[end + 7] != 1 {
+    // the last eight bytes mean the same in every edition
+    let tail = file.len() - 8;
+    if file[tail + 7] != edition {
         return false;
     }
-    let distance = number_at(4, file, end);
-    if distance != 8 * number_at(2, file, end + 4) {
+    let distance = number_at(4, file, tail);
+    if distance != 8 * number_at(2, file, tail + 4) {
         return false;
     }
+    let end = file.len() - size;
     if end < distance {
         return false;
     }
@@ -78,9 +80,19 @@ pub fn gates_between(lines: u8, records: &[u8], at: usize, end: usize) -> Extent
     Extent::Frame { lines, at, end }
 }
 
-// A whole record stands from a place on before an offset and the file's end.
-pub fn record_stands(file: &[u8], at: usize, end: usize) -> bool
-    ensures { λ r. ⌜ r ≡ recordStands (now (file .entry)) at end ⌝ }
+// Where the gates of a file stand: refusals 9, 1, 6, 7.
+pub fn opening_of(file: &[u8], size: usize, edition: u8) -> Extent
+    requires { ⌜ 8 ≤ size ⌝ }
+    ensures { λ r. ⌜ openingAs r ≡ openingOf size edition (now (file .entry)) ⌝ }
 {
-    gates::ends_by(at, end) && gates::ends_by(at, file.len())
+    if !frame_ok(file, size, edition) {
+        return Extent::Refused {
+            number: 9,
+            place: 0,
+        };
+    }
+    let tail = file.len() - 8;
+    let end = file.len() - size;
+    let at = end - number_at(4, file, tail);
+    gates_between(file[tail + 6], &file[at..end], at, end)
 }

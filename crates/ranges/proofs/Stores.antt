@@ -1,11 +1,12 @@
--- A run of stores into a list, `sets l i vs`: what stands where afterwards, and one run after another. Assumes nothing.
+-- A run of stores into a list, `sets l i vs`: what stands where afterwards, one run after another, and the loop that makes a run. Assumes nothing.
 use mathlib.Core.Path.{_≡_, refl, sym, ap, _∙_}
 use mathlib.Core.List.{List, [], _∷_, _++_, append-assoc}
 use Prim.Native.Nat.{ℕ, zero, suc, _+_, _≤_, _<_}
 use native.Mathlib.Nat.{add-zero, add-suc, suc-add}
+use native.Mathlib.Numerals.{add-one}
 use native.Mathlib.Omega.{arith}
 use lib.ListN.{length, getD, set, take, drop, List·getD-append}
-use lib.Seq.{sets, sets-eq, set-comm, length-take-le, getD-append-add, getD-set-other}
+use lib.Seq.{sets, sets-eq, set-comm, length-sets, length-take-le, take-suc, take-all, getD-append-add, getD-set-other}
 
 module _ {A : Type 0} where
   -- inside the run stands what was stored
@@ -44,3 +45,31 @@ module _ {A : Type 0} where
   pub sets-before : (us vs l : List A) (i j : ℕ) → i + length us ≡ j → sets (sets l j vs) i us ≡ sets l i (us ++ vs)
   sets-before us vs l i j e =
       sets-sets us vs l i j (omega arith) ∙ ap (λ (x : ℕ). sets (sets l i us) x vs) (sym e) ∙ sym (sets-append us vs l i)
+
+  -- ---- a loop that stores vs from place i on, after k turns
+
+  pub record Storing (vs l : List A) (i : ℕ) (l′ : List A) (k : ℕ) : Type 0 where
+    pub fits : i + length vs ≤ length l
+    pub within : k ≤ length vs
+    pub stored : l′ ≡ sets l i (take k vs)
+
+  pub storing-starts : (vs l : List A) (i : ℕ) → i + length vs ≤ length l → Storing vs l i l 0
+  storing-starts vs l i fits = record { fits = fits; within = omega arith; stored = refl }
+
+  module _ (vs l : List A) (i : ℕ) (l′ : List A) (k : ℕ) (s : Storing vs l i l′ k) where
+    pub storing-long : length l′ ≡ length l
+    storing-long = rw (s .stored) (length-sets l i (take k vs))
+
+    pub storing-place : k < length vs → i + k < length l′
+    storing-place lt = omega (arith, storing-long, s .fits)
+
+    pub storing-next : (v d : A) → k < length vs → v ≡ getD vs k d → Storing vs l i (set l′ (i + k) v) (k + 1)
+    storing-next v d lt e =
+        record {
+          fits = s .fits;
+          within = omega arith;
+          stored = rw (s .stored, e, add-one k, take-suc vs k d lt, sets-append, length-take-le k vs (omega arith));
+        }
+
+    pub storing-ends : length vs ≤ k → l′ ≡ sets l i vs
+    storing-ends le = s .stored ∙ rw (take-all k vs le)

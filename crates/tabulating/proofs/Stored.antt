@@ -1,15 +1,13 @@
--- Words stored into planes: what a store does to each plane (`set-here`, `set-else`), one turn of the loop that stores three words (`three-stored`), and
--- of the loop that stores word after word (`store-next`). Assumes nothing.
+-- Words stored into planes: what a store does to each plane (`set-here`, `set-else`), and one turn of the loop that stores three words
+-- (`three-stored`). Assumes nothing.
 use mathlib.Core.Path.{_≡_, ap, _∙_}
 use mathlib.Core.Bool.{Bool}
 use mathlib.Core.List.{List}
 use Prim.Native.Nat.{ℕ, zero, suc, _+_, _*_, _/_, _%_, _≤_, _<_}
 use native.Mathlib.Decide.{ℕ-discrete}
-use native.Mathlib.Numerals.{add-one}
 use native.Mathlib.Omega.{arith}
-use lib.ListN.{length, getD, set, take, length-set}
-use lib.Seq.{sets, take-suc, length-take-le, getD-set-same, getD-set-other}
-use Rattle.ranges.proofs.Stores.{sets-append}
+use lib.ListN.{length, set, length-set}
+use lib.Seq.{getD-set-same, getD-set-other}
 use Rattle.tabulating.specs.Planes.{on, member, Word}
 
 module _ (b : List ℕ) (at x a p : ℕ) where
@@ -42,6 +40,3 @@ three-stored n t b j x y z few long lj wx wy wz old d p ld lp lt = go d ld (ℕ-
         set-else b₂ (24 + j) z 1 p (λ e. omega arith) ∙ set-here b₁ (12 + j) y 1 p (simp length-set (omega arith)) (omega arith) ∙ wy p lp q
     go (suc (suc zero)) ld (yes q) = set-here b₂ (24 + j) z 2 p (simp length-set (omega arith)) (omega arith) ∙ wz p lp q
     go (suc (suc (suc d))) ld (yes q) = absurd (omega arith)
-
-pub store-next : (b : List ℕ) (at i : ℕ) (new : List ℕ) → i < length new → set (sets b at (take i new)) (at + i) (getD new i 0) ≡ sets b at (take (i + 1) new)
-store-next b at i new lt = rw (add-one i, take-suc new i 0 lt, sets-append, length-take-le i new (omega arith))

@@ -8,7 +8,7 @@ use Rattle.cascades.specs.Answers.{countedAs}
 use Rattle.cascades.proofs.Checks.{check-whole, check-refused}
 use Rattle.files.specs.Files.{fileSize, writeAnswer, writeRoom}
 use Rattle.files.proofs.Frames.{length-file}
-use Rattle.files.proofs.Answers.{write-note-long, write-room-small, write-accepted}
+use Rattle.files.proofs.Transfers.{write-note-long, write-room-small, write-accepted}
 use borrow.Author.Needs.{needs}
 use Rattle.files.proofs.write_file.Statement.{statement}
 use Rattle.files.proofs.write_file.Tie as tie
@@ -52,7 +52,7 @@ returns-3 c =
     refused-both _ _ _ _ _ (check-refused _ _ _ _ _ e)
 
 same-length : tie.Need-same-length
-same-length c = c .before .before .write-parts .kept .1 .1 .1 .0
+same-length c = search needs
 
 returns-4 : tie.Need-returns-4
 unfolding writeRoom fileSize

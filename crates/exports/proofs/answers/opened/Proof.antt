@@ -1,6 +1,6 @@
 -- `exports::answers::opened` meets its contract: the numbers of each case are those that `openingAs` names. Assumes nothing.
 use mathlib.Core.Path.{ap, sym, _∙_}
-use Rattle.files.specs.Readers.{openingAs}
+use Rattle.files.specs.Files.{openingAs}
 use Rattle.exports.specs.Numbers.{numbers}
 use borrow.Author.Needs.{needs}
 use Rattle.exports.proofs.answers.opened.Statement.{statement}

@@ -7,22 +7,20 @@ use borrow.Author.Needs.{needs}
 use Rattle.files.proofs.stores.write_parts.Statement.{statement}
 use Rattle.files.proofs.stores.write_parts.Tie as tie
 
-copy-requires : tie.Need-copy-requires
+copy-bytes-requires : tie.Need-copy-bytes-requires
 unfolding fileSize
-copy-requires c κs = omega (arith, c .before .before .before .before .pre .1)
+copy-bytes-requires c κs = search needs
 
-copy-requires-2 : tie.Need-copy-requires-2
+copy-bytes-requires-2 : tie.Need-copy-bytes-requires-2
 unfolding fileSize
-copy-requires-2 c κs = omega (arith, c .before .before .before .before .before .before .before .before .pre .1, c .before .before .before .copy .kept .1 .0)
+copy-bytes-requires-2 c κs = search needs
 
-add-write-trailer : tie.Need-add-write-trailer
-add-write-trailer c = search needs
+add-end : tie.Need-add-end
+add-end c = search needs
 
 write-trailer-requires : tie.Need-write-trailer-requires
 unfolding fileSize
-write-trailer-requires c κs =
-    let start = c .before .before .before .before .before .before .before .before .before .before .before .before in
-    (omega (arith, start .pre .0), omega (arith, start .pre .1, c .before .before .before .copy2 .kept .1 .0, c .before .before .before .before .before .before .before .copy .kept .1 .0))
+write-trailer-requires c κs = search needs
 
 same-length : tie.Need-same-length
 same-length c = search needs
@@ -30,15 +28,15 @@ same-length c = search needs
 returns : tie.Need-returns
 returns c =
     let d = c .before .before .before .before .before .before in
-    c .before .before .write-trailer .ensures ∙ file-stored _ _ _ _ _ _ (d .before .before .before .before .copy .ensures) (d .copy2 .ensures)
+    c .before .before .write-trailer .ensures ∙ file-stored _ _ _ _ _ _ (d .before .before .before .before .copy-bytes .ensures) (d .copy-bytes2 .ensures)
 
 pub write-parts-spec : {M : Type 1} → statement M
 write-parts-spec =
     tie.close
     (tie.spec
-    copy-requires
-    copy-requires-2
-    add-write-trailer
+    copy-bytes-requires
+    copy-bytes-requires-2
+    add-end
     write-trailer-requires
     same-length
     returns)

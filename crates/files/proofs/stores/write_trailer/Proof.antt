@@ -32,10 +32,10 @@ slice-write-room-2 : tie.Need-slice-write-room-2
 slice-write-room-2 c = simp length-set (omega arith)
 
 same-length : tie.Need-same-length
-same-length c = simp length-set (c .before .before .write-number2 .kept .1 .1 .0 ∙ c .before .before .before .before .before .before .write-number .kept .1 .1 .0)
+same-length c = simp length-set (search needs)
 
 returns : tie.Need-returns
-returns c = trailer-stored _ _ _ _ _ _ (c .before .before .before .before .before .before .write-number .ensures) (c .before .before .write-number2 .ensures)
+returns c = trailer-stored _ _ _ _ _ _ _ (c .before .before .before .before .before .before .write-number .ensures) (c .before .before .write-number2 .ensures)
 
 pub write-trailer-spec : {M : Type 1} → statement M
 write-trailer-spec =

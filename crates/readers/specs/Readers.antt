@@ -1,37 +1,26 @@
--- The reader: what opening a file gives, what the reader hands out at a place, and how it moves.
+-- The reader: what it hands out at a place, how it moves, and what opening a file gives.
 use Prim.Native.Nat.{ℕ, zero, suc, _+_}
 use mathlib.Core.Path.{_≡_}
 use mathlib.Core.Bool.{Bool, cond, _&&_}
 use mathlib.Core.List.{List, [], _∷_}
 use lib.Dec.{leb}
-use lib.ListN.{length, getD}
+use lib.ListN.{length}
 use denote.Ref.{RefT, ptr, now}
-use Rattle.card.specs.Card.{Answer, Answer.accepted, Answer.refused, values, linesOk}
+use Rattle.card.specs.Card.{Answer, Answer.accepted, Answer.refused, linesOk}
 use Rattle.gates.specs.Records.{isRecord, gateAt}
 use Rattle.gates.specs.declared.Gate.{Gate}
-use Rattle.files.specs.Files.{framed, linesIn, startOf, trailerAt}
-use Rattle.files.specs.declared.Extent.{Extent}
-use Rattle.files.specs.declared.Given.{Given}
-use Rattle.files.specs.declared.Turn.{Turn}
-use Rattle.files.specs.declared.Reader.{Reader}
-use Rattle.files.specs.declared.held.Bounds.{Bounds}
+use Rattle.files.specs.Files.{openingAnswer}
+use Rattle.readers.specs.declared.Given.{Given}
+use Rattle.readers.specs.declared.Turn.{Turn}
+use Rattle.readers.specs.declared.Reader.{Reader}
 
 -- ---- the document's number and values for each case of an answer
-
-abbrev pub openingAs : Extent → Answer
-openingAs (Extent.Frame n at end) = accepted (n ∷ at ∷ end ∷ [])
-openingAs (Extent.Refused k p) = refused k p
 
 -- 1 and the gate's operator, target and packed controls; 0 at the end
 abbrev pub givenAs : Given → Answer
 givenAs (Given.Gate o t c) = accepted (1 ∷ o ∷ t ∷ c ∷ [])
 givenAs Given.End = accepted (0 ∷ [])
 givenAs (Given.Refused k p) = refused k p
-
--- ---- opening: 9 1 6 7, and else the lines, the place of the first record and the offset where the records end
-
-unfoldable pub openingAnswer : List ℕ → Answer
-openingAnswer f = framed f (accepted (linesIn f ∷ startOf f ∷ trailerAt f ∷ []))
 
 -- ---- the next gate of a reader at place at, on n lines, whose records end at end
 
@@ -75,11 +64,3 @@ pub record Opened (f : RefT (List ℕ)) (r : Reader) : Type 0 where
   pub found : (vs : List ℕ) → openingAnswer (now f) ≡ accepted vs → (r .file ≡ f) × ((r .lines ∷ r .at ∷ r .end ∷ []) ≡ vs)
   pub none : (k p : ℕ) → openingAnswer (now f) ≡ refused k p
       → (ptr (r .file) ≡ ptr f) × (now (r .file) ≡ []) × ((r .lines ∷ r .at ∷ r .end ∷ []) ≡ 0 ∷ 0 ∷ 0 ∷ [])
-
--- its numbers by the answer of opening, and the part that goes with the lines
-unfoldable pub boundsOf : Answer → Bounds
-boundsOf a = record { end = getD (values a) 2 0; at = getD (values a) 1 0; lines = getD (values a) 0 0 }
-
-pub record HeldPart (n : ℕ) (f r : RefT (List ℕ)) : Type 0 where
-  pub itself : (n ≡ 0 → ⊥) → r ≡ f
-  pub none : n ≡ 0 → (ptr r ≡ ptr f) × (now r ≡ [])

@@ -1,9 +1,10 @@
--- `files::held::find_bounds` meets its contract: the numbers of the answer. Assumes nothing.
+-- `readers::held::find_bounds` meets its contract: the numbers of the answer. Assumes nothing.
 use mathlib.Core.Path.{sym, ap, _∙_}
-use Rattle.files.specs.Readers.{openingAs, boundsOf}
+use Rattle.files.specs.Files.{openingAs}
+use Rattle.readers.specs.Inner.Held.{boundsOf}
 use borrow.Author.Needs.{needs}
-use Rattle.files.proofs.held.find_bounds.Statement.{statement}
-use Rattle.files.proofs.held.find_bounds.Tie as tie
+use Rattle.readers.proofs.held.find_bounds.Statement.{statement}
+use Rattle.readers.proofs.held.find_bounds.Tie as tie
 
 opening-requires : tie.Need-opening-requires
 opening-requires c κs = search needs

@@ -1,4 +1,4 @@
--- `files::open` meets its contract: a walk of its MIR, by hand. `find_bounds` gives the reader's numbers, and `held_part` the part that it keeps hold of;
+-- `readers::open` meets its contract: a walk of its MIR, by hand. `find_bounds` gives the reader's numbers, and `held_part` the part that it keeps hold of;
 -- the reader is made of them, in the result's local. All that the proof knows of the two is that they meet their contracts. A `&[u8]` is Copy: what file
 -- owns is had as often as it is asked. Assumes nothing.
 use mathlib.Core.Path.{_≡_, refl, ap}
@@ -39,26 +39,27 @@ use denote.Triple.Spec.{Meets, tripleOf}
 use denote.Triple.Table.{entered, cited}
 use denote.Triple.Walked.{says, Stays, stay-none-slice, walkOf, goes-none-slice, Walks, ends-at, walked, walk-meets}
 use denote.Exit.{yes}
-use Rattle.files.specs.Readers.{openingAnswer, boundsOf, HeldPart}
-use Rattle.files.specs.declared.Reader.{Reader}
-use Rattle.files.specs.declared.held.Bounds.{Bounds}
-use Rattle.files.proofs.Readers.{reader-opened}
-use Rattle.files.proofs.Reader as T
-use Rattle.files.proofs.Reader.Laws as T′
-use Rattle.files.proofs.held.Bounds as B
-use Rattle.files.proofs.held.Bounds.Laws as B′
-use Rattle.files.proofs.held.find_bounds as bounds
-use Rattle.files.proofs.held.find_bounds.Symbol as bounds-def
-use Rattle.files.proofs.held.find_bounds.Symbol.{name as #find-bounds}
-use Rattle.files.proofs.held.find_bounds.Met as bounds-thm
-use Rattle.files.proofs.held.held_part as part
-use Rattle.files.proofs.held.held_part.Symbol as part-def
-use Rattle.files.proofs.held.held_part.Symbol.{name as #held-part}
-use Rattle.files.proofs.held.held_part.Met as part-thm
-use Rattle.files.proofs.open.Key.{name as #open}
-use Rattle.files.proofs.open as open′
-use Rattle.files.proofs.open.Statement as stated
-use Rattle.files.proofs.open.Code as code
+use Rattle.files.specs.Files.{openingAnswer}
+use Rattle.readers.specs.Inner.Held.{boundsOf, HeldPart}
+use Rattle.readers.specs.declared.Reader.{Reader}
+use Rattle.readers.specs.declared.held.Bounds.{Bounds}
+use Rattle.readers.proofs.Readers.{reader-opened}
+use Rattle.readers.proofs.Reader as T
+use Rattle.readers.proofs.Reader.Laws as T′
+use Rattle.readers.proofs.held.Bounds as B
+use Rattle.readers.proofs.held.Bounds.Laws as B′
+use Rattle.readers.proofs.held.find_bounds as bounds
+use Rattle.readers.proofs.held.find_bounds.Symbol as bounds-def
+use Rattle.readers.proofs.held.find_bounds.Symbol.{name as #find-bounds}
+use Rattle.readers.proofs.held.find_bounds.Met as bounds-thm
+use Rattle.readers.proofs.held.held_part as part
+use Rattle.readers.proofs.held.held_part.Symbol as part-def
+use Rattle.readers.proofs.held.held_part.Symbol.{name as #held-part}
+use Rattle.readers.proofs.held.held_part.Met as part-thm
+use Rattle.readers.proofs.open.Key.{name as #open}
+use Rattle.readers.proofs.open as open′
+use Rattle.readers.proofs.open.Statement as stated
+use Rattle.readers.proofs.open.Code as code
 
 abbrev stayed : Stays (open′.ended .signature .params) (open′.ended .kept)
 stayed = (stay-none-slice (0 ∷ []) tt (plain (λ _. u8)) yes, tt)
@@ -178,5 +179,5 @@ open-spec 𝓤 H 𝓜 𝓖 𝓡 =
     entered 𝓤 H (tripleOf 𝓤 H (𝓖 .A) open′.signature (open′.spec 𝓤 H (𝓖 .A) (𝓜 .mem) (𝓡 .run)))
     (tables 𝓤 H 𝓜 𝓡 code.env .C) (tables 𝓤 H 𝓜 𝓡 code.env .Λ) #open code.function (code.unfolded 𝓤 H 𝓜 𝓡)
     (open-meets 𝓤 H (𝓖 .A) (givenOf 𝓤 H 𝓜 𝓖) (𝓜 .mem) (𝓡 .run) (tablesOf 𝓤 H 𝓜 (tables 𝓤 H 𝓜 𝓡 code.env))
-    (cited 𝓤 H (FindBounds 𝓤 H (𝓖 .A) (𝓜 .mem) (𝓡 .run)) 𝓜 𝓡 code.env #find-bounds bounds-def.routine code.calls-files·held·find-bounds (bounds-thm.met 𝓤 H 𝓜 𝓖 𝓡))
-    (cited 𝓤 H (PartOf 𝓤 H (𝓖 .A) (𝓜 .mem) (𝓡 .run)) 𝓜 𝓡 code.env #held-part part-def.routine code.calls-files·held·held-part (part-thm.met 𝓤 H 𝓜 𝓖 𝓡)))
+    (cited 𝓤 H (FindBounds 𝓤 H (𝓖 .A) (𝓜 .mem) (𝓡 .run)) 𝓜 𝓡 code.env #find-bounds bounds-def.routine code.calls-readers·held·find-bounds (bounds-thm.met 𝓤 H 𝓜 𝓖 𝓡))
+    (cited 𝓤 H (PartOf 𝓤 H (𝓖 .A) (𝓜 .mem) (𝓡 .run)) 𝓜 𝓡 code.env #held-part part-def.routine code.calls-readers·held·held-part (part-thm.met 𝓤 H 𝓜 𝓖 𝓡)))

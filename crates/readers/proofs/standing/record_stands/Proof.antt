@@ -1,9 +1,9 @@
--- `files::frame::record_stands` meets its contract: both tests, or the first that fails. Assumes nothing.
+-- `readers::standing::record_stands` meets its contract: both tests, or the first that fails. Assumes nothing.
 use mathlib.Core.Path.{sym, _∙_}
-use Rattle.files.specs.Readers.{recordStands}
+use Rattle.readers.specs.Readers.{recordStands}
 use borrow.Author.Needs.{needs}
-use Rattle.files.proofs.frame.record_stands.Statement.{statement}
-use Rattle.files.proofs.frame.record_stands.Tie as tie
+use Rattle.readers.proofs.standing.record_stands.Statement.{statement}
+use Rattle.readers.proofs.standing.record_stands.Tie as tie
 
 ends-by-requires : tie.Need-ends-by-requires
 ends-by-requires c κs = search needs

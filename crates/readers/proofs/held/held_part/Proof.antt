@@ -1,8 +1,8 @@
--- `files::held::held_part` meets its contract. Assumes nothing.
+-- `readers::held::held_part` meets its contract. Assumes nothing.
 use mathlib.Core.Path.{refl}
 use borrow.Author.Needs.{needs}
-use Rattle.files.proofs.held.held_part.Statement.{statement}
-use Rattle.files.proofs.held.held_part.Tie as tie
+use Rattle.readers.proofs.held.held_part.Statement.{statement}
+use Rattle.readers.proofs.held.held_part.Tie as tie
 
 slice-aggregate-result : tie.Need-slice-aggregate-result
 slice-aggregate-result c = search needs

@@ -1,15 +1,13 @@
 -- Numbers in bytes, low byte first: written and read back, read and written back. They rest on the laws of `digit` and `pack` in radix 256.
--- Then one turn of a loop that stores byte after byte. Assumes nothing.
-use mathlib.Core.Path.{_≡_, sym, ap, _∙_}
-use mathlib.Core.List.{List, _∷_}
-use Prim.Native.Nat.{ℕ, suc, _+_, _-_, _^_, _≤_, _<_}
+-- Assumes nothing.
+use mathlib.Core.Path.{_≡_, sym, _∙_}
+use mathlib.Core.List.{List}
+use Prim.Native.Nat.{ℕ, _+_, _^_, _≤_, _<_}
 use native.Mathlib.Nat.{zero-add}
-use native.Mathlib.Numerals.{add-one}
 use native.Mathlib.Omega.{arith}
-use lib.ListN.{length, getD, set, take, drop, length-drop, drop-of-length-le}
-use lib.Seq.{sets, drop-cons, length-take-le, getD-take, getD-drop, ext-getD}
-use Rattle.ranges.specs.Ranges.{span}
-use Rattle.ranges.proofs.Spans.{length-span, span-at, span-more, span-ends}
+use lib.ListN.{length, getD, take, drop, length-drop}
+use lib.Seq.{length-take-le, getD-take, getD-drop, ext-getD}
+use Rattle.ranges.proofs.Spans.{length-span, span-at}
 use Rattle.digits.specs.Digits.{digit}
 use Rattle.digits.proofs.Packs.{pack-ext, pack-digits, digit-pack}
 use Rattle.files.specs.Files.{littleEndian, numberAt}
@@ -42,24 +40,3 @@ bytes-again k f at bytes fits =
   where
     digits : (i : ℕ) → i < k → digit 256 i (numberAt k f at) ≡ getD f (at + i) 0
     digits i lt = unfold numberAt in digit-pack 256 (λ j. getD f (at + j) 0) k (λ j l. bytes (at + j)) i lt
-
--- ---- one turn of a loop that stores from place at on, and its end: what is left to store
-
-module _ (room : List ℕ) (at i : ℕ) where
-  stored-next : (x : ℕ) (xs : List ℕ) → sets (set room (at + i) x) (at + (i + 1)) xs ≡ sets room (at + i) (x ∷ xs)
-  stored-next x xs = let e : at + (i + 1) ≡ suc (at + i) = omega arith in rw e
-
-  pub copy-more : (bytes : List ℕ) → i < length bytes → sets (set room (at + i) (getD bytes i 0)) (at + (i + 1)) (drop (i + 1) bytes) ≡ sets room (at + i) (drop i bytes)
-  copy-more bytes lt =
-      let e : getD bytes i 0 ∷ drop (i + 1) bytes ≡ drop i bytes = rw add-one (sym (drop-cons bytes i 0 lt)) in
-      stored-next (getD bytes i 0) (drop (i + 1) bytes) ∙ ap (λ (xs : List ℕ). sets room (at + i) xs) e
-
-  pub copy-ends : (bytes : List ℕ) → length bytes ≤ i → sets room (at + i) (drop i bytes) ≡ room
-  copy-ends bytes le = rw (drop-of-length-le bytes {i = i} le)
-
-  pub digits-more : (x k : ℕ) → i < k
-      → sets (set room (at + i) (digit 256 i x)) (at + (i + 1)) (span (λ j. digit 256 j x) (i + 1) (k - (i + 1))) ≡ sets room (at + i) (span (λ j. digit 256 j x) i (k - i))
-  digits-more x k lt = rw (span-more (λ j. digit 256 j x) k i lt) (stored-next (digit 256 i x) (span (λ j. digit 256 j x) (i + 1) (k - (i + 1))))
-
-  pub digits-ends : (x k : ℕ) → k ≤ i → sets room (at + i) (span (λ j. digit 256 j x) i (k - i)) ≡ room
-  digits-ends x k le = rw (span-ends (λ j. digit 256 j x) k i le)

@@ -1,8 +1,9 @@
 // What a reader over a file is made of: its numbers, and the part that it keeps hold of.
 ghost use mathlib.Core.Path.{_≡_};
 ghost use denote.Ref.{now};
-ghost use Rattle.files.specs.Readers.{openingAnswer, boundsOf, HeldPart};
-use crate::Extent;
+ghost use Rattle.files.specs.Files.{openingAnswer};
+ghost use Rattle.readers.specs.Inner.Held.{boundsOf, HeldPart};
+use files::Extent;
 
 // Where the records end, the place of the first, and the lines.
 pub struct Bounds {
@@ -15,7 +16,7 @@ pub struct Bounds {
 pub fn find_bounds(file: &[u8]) -> Bounds
     ensures { λ r. ⌜ r ≡ boundsOf (openingAnswer (now (file .entry))) ⌝ }
 {
-    match crate::opening(file) {
+    match files::opening(file) {
         Extent::Frame { lines, at, end } => Bounds { end, at, lines },
         Extent::Refused {
             number: _,

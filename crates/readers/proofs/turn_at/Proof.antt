@@ -1,4 +1,4 @@
--- `files::turn_at` meets its contract: each return is a case of `turnAt`. Assumes nothing.
+-- `readers::turn_at` meets its contract: each return is a case of `turnAt`. Assumes nothing.
 use mathlib.Core.Path.{_≡_, sym, _∙_}
 use mathlib.Core.Bool.{true}
 use Prim.Native.Nat.{_+_, _≤_}
@@ -6,11 +6,11 @@ use lib.ListN.{length}
 use borrow.Author.Tests.{not-true, not-false}
 use native.Mathlib.Omega.{arith}
 use Rattle.card.specs.Card.{linesOk}
-use Rattle.files.specs.Readers.{recordStands}
-use Rattle.files.proofs.Turns.{record-fits, turn-lines, turn-end, turn-not, turn-gate}
+use Rattle.readers.specs.Readers.{recordStands}
+use Rattle.readers.proofs.Handed.{record-fits, turn-lines, turn-end, turn-not, turn-gate}
 use borrow.Author.Needs.{needs}
-use Rattle.files.proofs.turn_at.Statement.{statement}
-use Rattle.files.proofs.turn_at.Tie as tie
+use Rattle.readers.proofs.turn_at.Statement.{statement}
+use Rattle.readers.proofs.turn_at.Tie as tie
 
 module _ (c : tie.Else1) where
   six : linesOk (c .before .before .before .args .lines) ≡ true

@@ -20,11 +20,11 @@ use Rattle.gates.specs.Inner.Decoding.{decoded}
 use Rattle.gates.proofs.Records.{reads, record-lines, gate-ext, decoded-is, gives, gives-no}
 use Rattle.cascades.specs.Cascades.{gateIn, gatesOf}
 use Rattle.cascades.specs.Inner.Checked.{Whole}
-use Rattle.files.specs.declared.Given.{Given}
-use Rattle.files.specs.Files.{trailerAt, distance, count, linesIn, startOf, recordsOf}
-use Rattle.files.specs.Readers.{openingAnswer, recordStands, asGiven, givenAt, placeAfter, turnAt, handed}
+use Rattle.readers.specs.declared.Given.{Given}
+use Rattle.files.specs.Files.{openingAnswer, trailerAt, distance, count, linesIn, startOf, recordsOf}
+use Rattle.readers.specs.Readers.{recordStands, asGiven, givenAt, placeAfter, turnAt, handed}
 use Rattle.files.proofs.Frames.{Right, parts-end, trailer-fits, records-count}
-use Rattle.files.proofs.Answers.{opening-says}
+use Rattle.files.proofs.Openings.{opens-at}
 
 pub record-fits : (f : List ℕ) (at end : ℕ) → recordStands f at end ≡ true → at + 8 ≤ length f
 unfolding recordStands
@@ -72,57 +72,53 @@ record-moved n b b′ at at′ h fits e =
     (λ k le lt. ap (lineOk n (getD b (at + 1) 0) k) (rw (add-assoc at 2 k, add-assoc at′ 2 k) (h (2 + k) (omega arith)))))
     ∙ r .lines)
 
-module _ (f : List ℕ) (r : Right f) (w : Whole (linesIn f) (recordsOf f) (count f)) where
+module _ (f : List ℕ) (r : Right 8 1 f) (w : Whole (linesIn f) (recordsOf 8 f) (count f)) where
   -- the bytes of record i
-  same-bytes : (i : ℕ) → i < count f → (k : ℕ) → k < 8 → getD (recordsOf f) (8 * i + k) 0 ≡ getD f (startOf f + 8 * i + k) 0
+  same-bytes : (i : ℕ) → i < count f → (k : ℕ) → k < 8 → getD (recordsOf 8 f) (8 * i + k) 0 ≡ getD f (startOf 8 f + 8 * i + k) 0
   unfolding recordsOf
   same-bytes i li k lk =
-      getD-take (distance f) (drop (startOf f) f) (8 * i + k) 0 (omega (arith, r .eight)) ∙ getD-drop (startOf f) f (8 * i + k) 0
-      ∙ ap (λ (x : ℕ). getD f x 0) (sym (add-assoc (startOf f) (8 * i) k))
+      getD-take (distance f) (drop (startOf 8 f) f) (8 * i + k) 0 (omega (arith, r .eight)) ∙ getD-drop (startOf 8 f) f (8 * i + k) 0
+      ∙ ap (λ (x : ℕ). getD f x 0) (sym (add-assoc (startOf 8 f) (8 * i) k))
 
-  fits : (i : ℕ) → i < count f → startOf f + 8 * i + 8 ≤ trailerAt f
-  fits i li = omega (arith, parts-end f r, r .eight)
+  fits : (i : ℕ) → i < count f → startOf 8 f + 8 * i + 8 ≤ trailerAt 8 f
+  fits i li = omega (arith, parts-end 8 1 f r, r .eight)
 
   -- the turn at record i
-  turn-at : (i : ℕ) → i < count f → turnAt f (linesIn f) (startOf f + 8 * i) (trailerAt f) ≡ record { given = asGiven (gateIn (recordsOf f) i); at = startOf f + 8 * (i + 1) }
+  turn-at : (i : ℕ) → i < count f → turnAt f (linesIn f) (startOf 8 f + 8 * i) (trailerAt 8 f) ≡ record { given = asGiven (gateIn (recordsOf 8 f) i); at = startOf 8 f + 8 * (i + 1) }
   unfolding recordStands
   turn-at i li =
-      let inside : startOf f + 8 * i + 8 ≤ length f = omega (arith, fits i li, trailer-fits f r) in
-      let is = record-moved (linesIn f) (recordsOf f) f (8 * i) (startOf f + 8 * i) (same-bytes i li) inside (w .each i li) in
-      let g : gateAt (recordsOf f) (8 * i) ≡ gateAt f (startOf f + 8 * i) = gate-ext (recordsOf f) f (8 * i) (startOf f + 8 * i) (same-bytes i li) in
-      let next : startOf f + 8 * i + 8 ≡ startOf f + 8 * (i + 1) = omega arith in
-      turn-hands f (linesIn f) (startOf f + 8 * i) (trailerAt f) (w .lines)
-      (and-both (leb (startOf f + 8 * i + 8) (trailerAt f)) (leb (startOf f + 8 * i + 8) (length f)) (le-leb (startOf f + 8 * i + 8) (trailerAt f) (fits i li)) (le-leb (startOf f + 8 * i + 8) (length f) inside)) is
+      let inside : startOf 8 f + 8 * i + 8 ≤ length f = omega (arith, fits i li, trailer-fits 8 1 f r) in
+      let is = record-moved (linesIn f) (recordsOf 8 f) f (8 * i) (startOf 8 f + 8 * i) (same-bytes i li) inside (w .each i li) in
+      let g : gateAt (recordsOf 8 f) (8 * i) ≡ gateAt f (startOf 8 f + 8 * i) = gate-ext (recordsOf 8 f) f (8 * i) (startOf 8 f + 8 * i) (same-bytes i li) in
+      let next : startOf 8 f + 8 * i + 8 ≡ startOf 8 f + 8 * (i + 1) = omega arith in
+      turn-hands f (linesIn f) (startOf 8 f + 8 * i) (trailerAt 8 f) (w .lines)
+      (and-both (leb (startOf 8 f + 8 * i + 8) (trailerAt 8 f)) (leb (startOf 8 f + 8 * i + 8) (length f)) (le-leb (startOf 8 f + 8 * i + 8) (trailerAt 8 f) (fits i li)) (le-leb (startOf 8 f + 8 * i + 8) (length f) inside)) is
       ∙ rw (g, next)
 
   -- the turn at the end
-  turn-last : turnAt f (linesIn f) (trailerAt f) (trailerAt f) ≡ record { given = Given.End; at = trailerAt f }
+  turn-last : turnAt f (linesIn f) (trailerAt 8 f) (trailerAt 8 f) ≡ record { given = Given.End; at = trailerAt 8 f }
   unfolding recordStands
-  turn-last = turn-end f (linesIn f) (trailerAt f) (trailerAt f) (w .lines) (rw (lt-leb (trailerAt f + 8) (trailerAt f) (omega arith)))
+  turn-last = turn-end f (linesIn f) (trailerAt 8 f) (trailerAt 8 f) (w .lines) (rw (lt-leb (trailerAt 8 f + 8) (trailerAt 8 f) (omega arith)))
 
-  end-stays : (k : ℕ) → handed f (linesIn f) (trailerAt f) (trailerAt f) k ≡ replicate k Given.End
+  end-stays : (k : ℕ) → handed f (linesIn f) (trailerAt 8 f) (trailerAt 8 f) k ≡ replicate k Given.End
   unfolding handed
   end-stays zero = refl
   end-stays (suc k) = rw (turn-last, end-stays k)
 
   hands-on : (m i k : ℕ) → i + m ≡ count f
-      → handed f (linesIn f) (startOf f + 8 * i) (trailerAt f) (m + k) ≡ map asGiven (span (gateIn (recordsOf f)) i m) ++ replicate k Given.End
+      → handed f (linesIn f) (startOf 8 f + 8 * i) (trailerAt 8 f) (m + k) ≡ map asGiven (span (gateIn (recordsOf 8 f)) i m) ++ replicate k Given.End
   unfolding handed span
   hands-on zero i k e =
-      let last : startOf f + 8 * i ≡ trailerAt f = omega (arith, parts-end f r, r .eight) in
+      let last : startOf 8 f + 8 * i ≡ trailerAt 8 f = omega (arith, parts-end 8 1 f r, r .eight) in
       rw (zero-add k, last) (end-stays k)
   hands-on (suc m) i k e =
-      rw (suc-add m k, turn-at i (omega arith)) (ap (λ (l : List Given). asGiven (gateIn (recordsOf f) i) ∷ l) (hands-on m (i + 1) k (omega arith)))
+      rw (suc-add m k, turn-at i (omega arith)) (ap (λ (l : List Given). asGiven (gateIn (recordsOf 8 f) i) ∷ l) (hands-on m (i + 1) k (omega arith)))
 
 -- over a file that opens: its gates, and then the end
 pub reader-gates : (f : List ℕ) (n at end : ℕ) → openingAnswer f ≡ accepted (n ∷ at ∷ end ∷ []) → (k : ℕ)
-    → handed f n at end (count f + k) ≡ map asGiven (gatesOf (recordsOf f)) ++ replicate k Given.End
+    → handed f n at end (count f + k) ≡ map asGiven (gatesOf (recordsOf 8 f)) ++ replicate k Given.End
 unfolding gatesOf
 reader-gates f n at end e k =
-    let o = opening-says f (accepted (n ∷ at ∷ end ∷ [])) e in
-    let r = o .framed-right in
-    let en : n ≡ linesIn f = cc (o .is) in
-    let start : at ≡ startOf f = cc (o .is) in
-    let ea : at ≡ startOf f + 8 * 0 = omega arith in
-    let ee : end ≡ trailerAt f = cc (o .is) in
-    rw (en, ea, ee, records-count f r) (hands-on f r (o .whole) (count f) 0 k (zero-add (count f)))
+    let o = opens-at 8 1 f n at end e in
+    let first : at ≡ startOf 8 f + 8 * 0 = omega (arith, o .first) in
+    rw (o .lines, first, o .last, records-count 8 1 f (o .framed-right)) (hands-on f (o .framed-right) (o .whole) (count f) 0 k (zero-add (count f)))

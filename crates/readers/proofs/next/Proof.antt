@@ -1,4 +1,4 @@
--- `files::next` meets its contract: a walk of its MIR, by hand. The outer borrow is opened, the reader's fields are copied to `turn_at`, the place that it
+-- `readers::next` meets its contract: a walk of its MIR, by hand. The outer borrow is opened, the reader's fields are copied to `turn_at`, the place that it
 -- returned is stored beside the slice that the reader holds, and the borrow is closed at the reader so moved. All that the proof knows of `turn_at` is
 -- that it meets its contract. The reader is Copy: what it owns is had twice, and one goes to the callee, field by field in the callee's order. Assumes nothing.
 use mathlib.Core.Path.{_≡_, refl, ap}
@@ -45,23 +45,23 @@ use denote.Triple.Entry.{Vals, onEntry}
 use denote.Triple.Spec.{Meets, tripleOf}
 use denote.Triple.Table.{entered, cited}
 use denote.Triple.Walked.{says, Stays, stay-ref, walkOf, goes-ref, Walks, ends-at, walked, walk-meets}
-use Rattle.files.specs.Readers.{givenAs, turnOf, movedTo}
-use Rattle.files.specs.declared.Reader.{Reader}
-use Rattle.files.specs.declared.Turn.{Turn}
-use Rattle.files.proofs.Reader as T
-use Rattle.files.proofs.Reader.Laws as T′
-use Rattle.files.proofs.Turn as S
-use Rattle.files.proofs.Turn.Laws as S′
-use Rattle.files.proofs.Given as G
-use Rattle.files.proofs.Given.Laws as G′
-use Rattle.files.proofs.turn_at as turn
-use Rattle.files.proofs.turn_at.Symbol as turn-def
-use Rattle.files.proofs.turn_at.Symbol.{name as #turn-at}
-use Rattle.files.proofs.turn_at.Met as turn-thm
-use Rattle.files.proofs.next.Key.{name as #next}
-use Rattle.files.proofs.next as next
-use Rattle.files.proofs.next.Statement as stated
-use Rattle.files.proofs.next.Code as code
+use Rattle.readers.specs.Readers.{givenAs, turnOf, movedTo}
+use Rattle.readers.specs.declared.Reader.{Reader}
+use Rattle.readers.specs.declared.Turn.{Turn}
+use Rattle.readers.proofs.Reader as T
+use Rattle.readers.proofs.Reader.Laws as T′
+use Rattle.readers.proofs.Turn as S
+use Rattle.readers.proofs.Turn.Laws as S′
+use Rattle.readers.proofs.Given as G
+use Rattle.readers.proofs.Given.Laws as G′
+use Rattle.readers.proofs.turn_at as turn
+use Rattle.readers.proofs.turn_at.Symbol as turn-def
+use Rattle.readers.proofs.turn_at.Symbol.{name as #turn-at}
+use Rattle.readers.proofs.turn_at.Met as turn-thm
+use Rattle.readers.proofs.next.Key.{name as #next}
+use Rattle.readers.proofs.next as next
+use Rattle.readers.proofs.next.Statement as stated
+use Rattle.readers.proofs.next.Code as code
 
 -- `Reader<'a>`, as the referent's place in the signature
 abbrev behind : Slot 2
@@ -201,4 +201,4 @@ next-spec 𝓤 H 𝓜 𝓖 𝓡 =
     entered 𝓤 H (tripleOf 𝓤 H (𝓖 .A) next.signature (next.spec 𝓤 H (𝓖 .A) (𝓜 .mem) (𝓡 .run)))
     (tables 𝓤 H 𝓜 𝓡 code.env .C) (tables 𝓤 H 𝓜 𝓡 code.env .Λ) #next code.function (code.unfolded 𝓤 H 𝓜 𝓡)
     (next-meets 𝓤 H (𝓖 .A) (givenOf 𝓤 H 𝓜 𝓖) (𝓜 .mem) (𝓡 .run) (tablesOf 𝓤 H 𝓜 (tables 𝓤 H 𝓜 𝓡 code.env))
-    (cited 𝓤 H (TurnAt 𝓤 H (𝓖 .A) (𝓜 .mem) (𝓡 .run)) 𝓜 𝓡 code.env #turn-at turn-def.routine code.calls-files·turn-at (turn-thm.met 𝓤 H 𝓜 𝓖 𝓡)))
+    (cited 𝓤 H (TurnAt 𝓤 H (𝓖 .A) (𝓜 .mem) (𝓡 .run)) 𝓜 𝓡 code.env #turn-at turn-def.routine code.calls-readers·turn-at (turn-thm.met 𝓤 H 𝓜 𝓖 𝓡)))
