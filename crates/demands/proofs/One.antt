@@ -17,7 +17,7 @@ use Rattle.tabulating.specs.Tabulating.{tabulateAnswer, tabulateRoom}
 use Rattle.synthesis.specs.Synthesis.{bound, synthesized, synthesizeAnswer, synthesizeRoom}
 use Rattle.rules.specs.Tidying.{tidied, tidyAnswer, tidyBuffer}
 use Rattle.choice.specs.Choice.{secondWins, chooseAnswer}
-use Rattle.files.specs.Files.{fileSize, linesIn, count, startOf, trailerAt, recordsOf, framed, openingOf, openingAnswer, writeAnswer, writeRoom, readAnswer, readRecords, readNote}
+use Rattle.files.specs.Files.{fileSize, linesIn, count, startOf, trailerAt, recordsOf, onFile, openingOf, openingAnswer, writeAnswer, writeRoom, readAnswer, readRecords, readNote}
 use Rattle.readers.specs.Readers.{recordStands, asGiven, givenAs, givenAt, placeAfter, turnAt}
 use Rattle.readers.specs.declared.Given.{Given}
 use Rattle.listings.specs.Listings.{listingText, listingAnswer, listingRoom}
@@ -120,7 +120,7 @@ pub read-file : (f : List ℕ) (room noteRoom : ℕ)
     → Exactly (readAnswer f room noteRoom)
     (row9 f ∷ row1 (linesIn f) ∷ row6 (recordsOf 8 f) ∷ row7 (linesIn f) (recordsOf 8 f) ∷ row5 (room / 8) (count f) ∷ row5 noteRoom (startOf 8 f) ∷ [])
     (linesIn f ∷ count f ∷ startOf 8 f ∷ [])
-unfolding readAnswer framed onLines onRecords decided
+unfolding readAnswer onFile onLines onRecords decided
 read-file f room noteRoom =
     exactly (row9 f ∷ row1 (linesIn f) ∷ row6 (recordsOf 8 f) ∷ row7 (linesIn f) (recordsOf 8 f) ∷ row5 (room / 8) (count f) ∷ row5 noteRoom (startOf 8 f) ∷ [])
     (linesIn f ∷ count f ∷ startOf 8 f ∷ [])
@@ -135,7 +135,7 @@ read-note-kept f room noteRoom = kept (readAnswer f (length room) (length noteRo
 
 pub opening : (f : List ℕ)
     → Exactly (openingAnswer f) (row9 f ∷ row1 (linesIn f) ∷ row6 (recordsOf 8 f) ∷ row7 (linesIn f) (recordsOf 8 f) ∷ []) (linesIn f ∷ startOf 8 f ∷ trailerAt 8 f ∷ [])
-unfolding openingOf framed onLines onRecords decided
+unfolding openingOf onFile onLines onRecords decided
 opening f = exactly (row9 f ∷ row1 (linesIn f) ∷ row6 (recordsOf 8 f) ∷ row7 (linesIn f) (recordsOf 8 f) ∷ []) (linesIn f ∷ startOf 8 f ∷ trailerAt 8 f ∷ [])
 
 -- the values are the gate's where a record stands, and else the end's

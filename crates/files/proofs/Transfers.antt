@@ -14,7 +14,7 @@ use Rattle.cascades.specs.Answers.{checkAnswer}
 use Rattle.cascades.proofs.Checks.{passed, check-whole, check-refused}
 use Rattle.files.specs.Files.{trailerAt, count, linesIn, startOf, noteOf, recordsOf, openingOf, fileSize, writeAnswer, readAnswer, readRecords, readNote}
 use Rattle.files.proofs.Frames.{Right}
-use Rattle.files.proofs.Openings.{Opens, opening-says, framed-passed}
+use Rattle.files.proofs.Openings.{Opens, opening-says, on-file-passed}
 
 -- ---- reading into two rooms
 
@@ -34,19 +34,19 @@ module _ (f room noteRoom : List ℕ) where
   module _ (r : Right 8 1 f) (w : Whole (linesIn f) (recordsOf 8 f) (count f)) where
     pub read-records-small : length room / 8 < count f → readAnswer f (length room) (length noteRoom) ≡ refused 5 (count f)
     unfolding readAnswer
-    read-records-small lt = framed-passed 8 1 f r w _ ∙ refusing-yes _ 5 (count f) _ (lt-ltb (length room / 8) (count f) lt)
+    read-records-small lt = on-file-passed 8 1 f r w _ ∙ refusing-yes _ 5 (count f) _ (lt-ltb (length room / 8) (count f) lt)
 
     module _ (fits : count f ≤ length room / 8) where
       pub read-note-small : length noteRoom < startOf 8 f → readAnswer f (length room) (length noteRoom) ≡ refused 5 (startOf 8 f)
       unfolding readAnswer
       read-note-small lt =
-          framed-passed 8 1 f r w _ ∙ refusing-no _ 5 (count f) _ (le-ltb (length room / 8) (count f) fits) ∙ refusing-yes _ 5 (startOf 8 f) _ (lt-ltb (length noteRoom) (startOf 8 f) lt)
+          on-file-passed 8 1 f r w _ ∙ refusing-no _ 5 (count f) _ (le-ltb (length room / 8) (count f) fits) ∙ refusing-yes _ 5 (startOf 8 f) _ (lt-ltb (length noteRoom) (startOf 8 f) lt)
 
       module _ (fits′ : startOf 8 f ≤ length noteRoom) where
         pub read-accepted : readAnswer f (length room) (length noteRoom) ≡ accepted (linesIn f ∷ count f ∷ startOf 8 f ∷ [])
         unfolding readAnswer
         read-accepted =
-            framed-passed 8 1 f r w _ ∙ refusing-no _ 5 (count f) _ (le-ltb (length room / 8) (count f) fits) ∙ refusing-no _ 5 (startOf 8 f) _ (le-ltb (length noteRoom) (startOf 8 f) fits′)
+            on-file-passed 8 1 f r w _ ∙ refusing-no _ 5 (count f) _ (le-ltb (length room / 8) (count f) fits) ∙ refusing-no _ 5 (startOf 8 f) _ (le-ltb (length noteRoom) (startOf 8 f) fits′)
 
         pub read-done : (now noteNow : List ℕ) → now ≡ laid (recordsOf 8 f) room → noteNow ≡ laid (noteOf 8 f) noteRoom
             → (accepted (linesIn f ∷ count f ∷ startOf 8 f ∷ []) ≡ readAnswer f (length room) (length noteRoom))

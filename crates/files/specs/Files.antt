@@ -102,12 +102,12 @@ frameOk z e f =
     && leb (startOf z f) 1024
 
 -- 9 1 6 7 of the file f, and else the answer x
-unfoldable pub framed : ℕ → ℕ → List ℕ → Answer → Answer
-framed z e f x = refusing (not (frameOk z e f)) 9 0 (onLines (linesIn f) (onCascade (linesIn f) (recordsOf z f) x))
+unfoldable pub onFile : ℕ → ℕ → List ℕ → Answer → Answer
+onFile z e f x = refusing (not (frameOk z e f)) 9 0 (onLines (linesIn f) (onCascade (linesIn f) (recordsOf z f) x))
 
 -- 9 1 6 7, and else the lines, the place of the first record and the offset where the records end
 unfoldable pub openingOf : ℕ → ℕ → List ℕ → Answer
-openingOf z e f = framed z e f (accepted (linesIn f ∷ startOf z f ∷ trailerAt z f ∷ []))
+openingOf z e f = onFile z e f (accepted (linesIn f ∷ startOf z f ∷ trailerAt z f ∷ []))
 
 abbrev pub openingAnswer : List ℕ → Answer
 openingAnswer f = openingOf 8 1 f
@@ -115,7 +115,7 @@ openingAnswer f = openingOf 8 1 f
 -- 9 1 6 7, 5 for the records' room, 5 for the note's: rooms of so many bytes
 unfoldable pub readAnswer : List ℕ → ℕ → ℕ → Answer
 readAnswer f room noteRoom =
-    framed 8 1 f
+    onFile 8 1 f
     (refusing (ltb (room / 8) (count f)) 5 (count f)
     (refusing (ltb noteRoom (startOf 8 f)) 5 (startOf 8 f) (accepted (linesIn f ∷ count f ∷ startOf 8 f ∷ []))))
 

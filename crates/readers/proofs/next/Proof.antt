@@ -22,7 +22,7 @@ use types.Kit.{Given, ‵, raw, given, _⊛_, ⋆, some, later, _$_, _∵_, !, q
 use types.Part.{whole, sub, look-in, store-in}
 use types.Run.{look, init, forget, stop, hop, fld, from, load, of-opd, and-then, no-more, assigns, land, returns, enter, alloc1, alloc0, params1, pass1, pass0, free1, free0}
 use types.SemTy.{Body}
-use onCascade.WpLaws.{FmC, fmOf, WpFn-mono}
+use sound.WpLaws.{FmC, fmOf, WpFn-mono}
 use denote.RattleType.{RattleType, owns}
 use denote.Laws.{Is, shows}
 use denote.Memory.{mem, cellAt}

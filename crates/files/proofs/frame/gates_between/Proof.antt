@@ -7,6 +7,7 @@ use borrow.Author.Tests.{not-true, not-false}
 use borrow.Author.Needs.{needs}
 use Rattle.card.specs.Card.{linesOk}
 use Rattle.card.proofs.Cards.{no-lines, good-lines}
+use Rattle.gates.specs.Records.{isRecord}
 use Rattle.gates.proofs.Records.{gives, gives-no}
 use Rattle.cascades.specs.Answers.{lengthOk}
 use Rattle.cascades.proofs.Answers.{Passing, passing-start, passing-next, on-records-length, on-records-bad, on-records-good}
@@ -14,7 +15,7 @@ use Rattle.files.proofs.frame.gates_between.Statement.{statement}
 use Rattle.files.proofs.frame.gates_between.Tie as tie
 
 abbrev Inv-loop : tie.InvT-loop
-Inv-loop lines records at end count i₀ i = Passing lines records count i
+Inv-loop lines records at end count i₀ i = Passing isRecord lines records count i
 
 abbrev μ-loop : tie.MeasureT-loop
 μ-loop lines records at end count i₀ i = count - i

@@ -7,7 +7,7 @@ use borrow.Author.Tests.{not-true, not-false}
 use native.Mathlib.Omega.{arith}
 use Rattle.files.specs.Files.{tailAt, trailerAt, distance, linesIn, startOf, frameOk, openingOf}
 use Rattle.files.proofs.Frames.{Right, right}
-use Rattle.files.proofs.Openings.{framed-not, opening-is}
+use Rattle.files.proofs.Openings.{on-file-not, opening-is}
 use borrow.Author.Needs.{needs}
 use Rattle.files.proofs.frame.opening_of.Statement.{statement}
 use Rattle.files.proofs.frame.opening_of.Tie as tie
@@ -27,7 +27,7 @@ frame-ok-requires c κs = search needs
 
 returns : tie.Need-returns
 unfolding openingOf
-returns c = sym (framed-not _ _ _ (sym (c .before .frame-ok .ensures) ∙ not-true _ (c .if1 .taken)) _)
+returns c = sym (on-file-not _ _ _ (sym (c .before .frame-ok .ensures) ∙ not-true _ (c .if1 .taken)) _)
 
 sub-tail : tie.Need-sub-tail
 sub-tail c = long c
