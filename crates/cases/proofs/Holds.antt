@@ -15,9 +15,9 @@ use Rattle.cascades.specs.Answers.{lengthOk, badRecord, firstBad, onRecords, pr
 use Rattle.synthesis.specs.Synthesis.{exchanger, controlFor, gateFor, synthesized, bound, synthesizeAnswer}
 use Rattle.rules.specs.Places.{isC, sameType, upsets, blocks, clashes, mayChange}
 use Rattle.rules.specs.Rules.{sameLines, differAt, differences, lineOf, cancels, merges, reduces, fits, withControl, loosened, retuned}
-use Rattle.rules.specs.Tidying.{isOpen, fitting, firstJ, firstI, without, ruled, untidy, step, tidiedIn, size, tidied, tidyAnswer, tidyBuffer}
+use Rattle.rules.specs.Tidying.{isOpen, fitting, firstJ, firstI, without, ruled, untidy, step, tidiedWithin, gatesAndControls, tidied, tidyAnswer, tidyBuffer}
 use Rattle.cases.specs.Cases.{Case, cases}
 
 pub all-hold : map (λ (c : Case). c .given) cases ≡ map (λ (c : Case). c .printed) cases
-unfolding every some sum first span total through digit put pack refusing linesOk onLines after act inverseOp holds firesOn changed applied inverse lineOk linesOkAt packedAt isRecord gateAt recordOf tooLarge repeated firstLarge firstRepeated onTable checkTableAnswer adding digitStep rowSteps rows settled cascadeFor gatesOf bytesOf tableFor base controlCount others gatePrice cascadePrice lengthOk badRecord firstBad onRecords priceAnswer exchanger controlFor gateFor synthesized bound synthesizeAnswer isC sameType upsets blocks clashes mayChange sameLines differAt differences lineOf cancels merges reduces fits withControl loosened retuned isOpen fitting firstJ firstI without ruled untidy step tidiedIn size tidied tidyAnswer tidyBuffer
+unfolding every some sum first span total through digit put pack refusing linesOk onLines after act inverseOp holds firesOn changed applied inverse lineOk linesOkAt packedAt isRecord gateAt recordOf tooLarge repeated firstLarge firstRepeated onTable checkTableAnswer adding digitStep rowSteps rows settled cascadeFor gatesOf bytesOf tableFor base controlCount others gatePrice cascadePrice lengthOk badRecord firstBad onRecords priceAnswer exchanger controlFor gateFor synthesized bound synthesizeAnswer isC sameType upsets blocks clashes mayChange sameLines differAt differences lineOf cancels merges reduces fits withControl loosened retuned isOpen fitting firstJ firstI without ruled untidy step tidiedWithin gatesAndControls tidied tidyAnswer tidyBuffer
 all-hold = refl

@@ -20,9 +20,9 @@ use Rattle.cascades.specs.Cascades.{records, gatesOf, ran, tableFor, tableOf}
 use Rattle.cascades.specs.Inner.Checked.{Whole}
 use Rattle.cascades.specs.Prices.{cascadePrice}
 use Rattle.cascades.specs.Answers.{onCascade, checkAnswer, priceAnswer}
-use Rattle.cascades.proofs.Checks.{passed}
-use Rattle.cascades.proofs.Checks.{check-whole, check-refused}
-use Rattle.choice.specs.Choice.{firstDifference, firstUnlike, secondWins, chooseAnswer, Handed}
+use Rattle.cascades.proofs.Checks.{passed, check-whole, check-refused}
+use Rattle.choice.specs.Choice.{firstDifference, secondWins, chooseAnswer, Handed}
+use Rattle.choice.specs.Inner.Comparing.{firstUnlike}
 
 -- ---- the first difference
 
@@ -32,9 +32,9 @@ unfolding first
 first-ext f g i zero h = refl
 first-ext f g i (suc m) h = rw (h i (omega arith) (omega arith), first-ext f g (i + 1) m (λ k le lt. h k (omega arith) (omega arith)))
 
-entry : (n : ℕ) (gs : List Gate) (p : ℕ) → p < 3 ^ n → getD (tableOf n gs) p 0 ≡ ran gs p
+table-entry : (n : ℕ) (gs : List Gate) (p : ℕ) → p < 3 ^ n → getD (tableOf n gs) p 0 ≡ ran gs p
 unfolding tableFor
-entry n gs p lt = rw (zero-add p) at (span-at (ran gs) 0 (3 ^ n) p 0 lt)
+table-entry n gs p lt = rw (zero-add p) at (span-at (ran gs) 0 (3 ^ n) p 0 lt)
 
 -- two tables differ first where the gates do
 pub first-unlike : (n : ℕ) (gs hs : List Gate) → firstUnlike (tableOf n gs) (tableOf n hs) ≡ firstDifference n gs hs
@@ -42,7 +42,7 @@ unfolding firstUnlike firstDifference
 first-unlike n gs hs =
     rw (long)
     (first-ext (λ p. not (eqb (getD (tableOf n gs) p 0) (getD (tableOf n hs) p 0))) (λ p. not (eqb (ran gs p) (ran hs p))) 0 (3 ^ n)
-    (λ p le lt. rw (entry n gs p (omega arith), entry n hs p (omega arith))))
+    (λ p le lt. rw (table-entry n gs p (omega arith), table-entry n hs p (omega arith))))
   where
     long : length (tableOf n gs) ≡ 3 ^ n
     long = unfold tableFor in length-span (ran gs) 0 (3 ^ n)
@@ -62,7 +62,7 @@ module _ (n : ℕ) (gs hs : List Gate) where
   pub other-tables : firstDifference n gs hs < 3 ^ n → tableOf n gs ≡ tableOf n hs → ⊥
   other-tables lt e =
       eqb-false (ran gs (firstDifference n gs hs)) (ran hs (firstDifference n gs hs)) (not-true (eqb (ran gs (firstDifference n gs hs)) (ran hs (firstDifference n gs hs))) (searched .hit lt))
-      (sym (entry n gs (firstDifference n gs hs) lt) ∙ rw e (entry n hs (firstDifference n gs hs) lt))
+      (sym (table-entry n gs (firstDifference n gs hs) lt) ∙ rw e (table-entry n hs (firstDifference n gs hs) lt))
 
 -- ---- 1, 10, 6 and 7
 

@@ -4,7 +4,7 @@ use mathlib.Core.Path.{_≡_}
 use mathlib.Core.Bool.{Bool, cond, not, _&&_, _||_}
 use mathlib.Core.List.{List, [], _∷_}
 use lib.Dec.{eqb, ltb}
-use lib.ListN.{length, getD}
+use lib.ListN.{length}
 use denote.Ref.{RefT, ptr, now}
 use Rattle.ranges.specs.Ranges.{first}
 use Rattle.card.specs.Card.{Answer, Answer.accepted, Answer.refused, refusing, onLines}
@@ -23,10 +23,6 @@ choiceAs (Choice.Refused k p) = refused k p
 -- the first input of n lines on which two lists of gates differ, or 3 ^ n
 unfoldable pub firstDifference : ℕ → List Gate → List Gate → ℕ
 firstDifference n gs hs = first (λ p. not (eqb (ran gs p) (ran hs p))) 0 (3 ^ n)
-
--- the same of two tables: the first index at which they differ, or the length
-unfoldable pub firstUnlike : List ℕ → List ℕ → ℕ
-firstUnlike xs ys = first (λ p. not (eqb (getD xs p 0) (getD ys p 0))) 0 (length xs)
 
 -- the second costs less, or the same with fewer gates
 unfoldable pub secondWins : ℕ → List Gate → List Gate → Bool

@@ -1,12 +1,12 @@
 // Two cascades compared: their tables entry by entry, and then cost and length.
 ghost use mathlib.Core.Path.{_≡_};
 ghost use mathlib.Core.Bool.{_&&_, _||_};
-ghost use Prim.Native.Nat.{_^_};
 ghost use lib.Dec.{eqb, ltb};
 ghost use lib.ListN.{length};
 ghost use Rattle.cascades.specs.Cascades.{records, gatesOf};
 ghost use Rattle.cascades.specs.Inner.Checked.{Whole};
-ghost use Rattle.choice.specs.Choice.{firstUnlike, firstDifference};
+ghost use Rattle.choice.specs.Choice.{firstDifference};
+ghost use Rattle.choice.specs.Inner.Comparing.{firstUnlike, TwoTables};
 
 // The first index at which two tables differ, or their length.
 fn first_unlike(one: &[u16], two: &[u16]) -> usize
@@ -26,9 +26,7 @@ fn first_unlike(one: &[u16], two: &[u16]) -> usize
 
 // The first input on which two cascades that were checked differ, or 3 to the lines: their tables are written into lent rooms.
 fn difference_in(lines: u8, first: &[u8], second: &[u8], one: &mut [u16], two: &mut [u16]) -> usize
-    requires { ⌜ Whole lines (now first) (records (now first)) ⌝ }
-    requires { ⌜ Whole lines (now second) (records (now second)) ⌝ }
-    requires { ⌜ (length (now one) ≡ 3 ^ lines) × (length (now two) ≡ 3 ^ lines) ⌝ }
+    requires { ⌜ TwoTables lines (now first) (now second) (now one) (now two) ⌝ }
     ensures { λ r. ⌜ r ≡ firstDifference lines (gatesOf (now (first .entry))) (gatesOf (now (second .entry))) ⌝ }
 {
     tabulating::whole::write_table(lines, first, first.len() / 8, one);

@@ -16,7 +16,7 @@ use Rattle.cascades.proofs.Checks.{check-whole}
 use Rattle.synthesis.specs.Synthesis.{bound, synthesized}
 use Rattle.synthesis.proofs.Synthesis.{synthesized-bound}
 use Rattle.rules.specs.Rules.{fits}
-use Rattle.rules.specs.Tidying.{gate, isOpen, size, tidied, tidyAnswer}
+use Rattle.rules.specs.Tidying.{gate, isOpen, gatesAndControls, tidied, tidyAnswer}
 use Rattle.rules.proofs.Endings.{Procedure}
 use Rattle.rules.proofs.Promises.{tidied-keeps, tidied-count, tidied-cost, tidied-cascade, tidied-ends, tidied-steps, tidied-few}
 use Rattle.demands.proofs.One.{check-cascade, tidy}
@@ -35,7 +35,7 @@ pub record Tidy (n : ℕ) (gs : List Gate) : Type 0 where
   pub ends : (i j : ℕ) → i < j → j < length (tidied gs .left) → isOpen (tidied gs .left) i j ≡ true
       → fits (gate (tidied gs .left) i) (gate (tidied gs .left) j) ≡ false
   pub rule-uses : Procedure gs (tidied gs)
-  pub few-steps : tidied gs .steps ≤ size gs
+  pub few-steps : tidied gs .steps ≤ gatesAndControls gs
 
 pub tidy-worth : (n : ℕ) (gs : List Gate) → Cascade n gs → Tidy n gs
 tidy-worth n gs c =

@@ -33,7 +33,7 @@ use Rattle.rules.specs.Places.{isC, sameType, upsets, blocks, clashes, mayChang
 use Rattle.rules.specs.Rules.{sameLines, fits}
 use Rattle.rules.specs.Tidying.{gate}
 use Rattle.rules.proofs.Rules.{both-or-none}
-use Rattle.rules.proofs.Pairs.{type-swap, one-passes, lines-on, fits-passes}
+use Rattle.rules.proofs.FittingPairs.{type-swap, one-passes, lines-on, fits-passes}
 use Rattle.remembering.specs.Buffers.{isGap, Stands}
 use Rattle.remembering.specs.Rows.{Quiet, Clear}
 use Rattle.remembering.specs.Views.{typeOf, upsetters, shunned, ownPart, viewOf, otherPart, againstOf, sixBits, kindOf, allKinds, Seen, Passed, Marked}

@@ -14,8 +14,8 @@ use Rattle.ranges.proofs.Bools.{decide, clash}
 use Rattle.ranges.proofs.Searches.{found}
 use Rattle.gates.specs.declared.Gate.{Gate}
 use Rattle.rules.specs.Rules.{fits}
-use Rattle.rules.specs.Tidying.{gate, isOpen, fitting, firstJ, firstI, untidy, step, Tidied, tidiedIn, size, tidied}
-use Rattle.rules.proofs.Steps.{stepped-size, step-stepped}
+use Rattle.rules.specs.Tidying.{gate, isOpen, fitting, firstJ, firstI, untidy, step, Outcome, tidiedWithin, gatesAndControls, tidied}
+use Rattle.rules.proofs.TidySteps.{stepped-gates-and-controls, step-stepped}
 
 -- ---- one look at the list
 
@@ -24,20 +24,20 @@ pub nothing-fits : (gs : List Gate) → untidy gs ≡ false → (i j : ℕ) → 
 unfolding untidy firstI firstJ fitting
 nothing-fits gs u i j ij inside o =
     let row : ℕ → Bool = λ i. ltb (firstJ gs i) (length gs) in
-    let none : row i ≡ false = found row 0 (length gs) .before i (omega arith) (omega (arith, ltb-false (firstI gs) (length gs) u)) in
+    let no-row : row i ≡ false = found row 0 (length gs) .before i (omega arith) (omega (arith, ltb-false (firstI gs) (length gs) u)) in
     let shut : fitting gs i j ≡ false =
-    found (fitting gs i) (i + 1) (length gs - (i + 1)) .before j (omega arith) (omega (arith, ltb-false (firstJ gs i) (length gs) none)) in
+    found (fitting gs i) (i + 1) (length gs - (i + 1)) .before j (omega arith) (omega (arith, ltb-false (firstJ gs i) (length gs) no-row)) in
     rw o at shut
 
-stops : (m : ℕ) (gs : List Gate) → untidy gs ≡ false → tidiedIn m gs ≡ record { left = gs; steps = 0 }
-unfolding tidiedIn
+stops : (m : ℕ) (gs : List Gate) → untidy gs ≡ false → tidiedWithin m gs ≡ record { left = gs; steps = 0 }
+unfolding tidiedWithin
 stops zero gs u = refl
-stops (suc m) gs u = rw (u, tidiedIn)
+stops (suc m) gs u = rw (u, tidiedWithin)
 
 goes-on : (m : ℕ) (gs : List Gate) → untidy gs ≡ true
-    → tidiedIn (suc m) gs ≡ record { left = tidiedIn m (step gs) .left; steps = suc (tidiedIn m (step gs) .steps) }
-unfolding tidiedIn
-goes-on m gs u = rw (u, tidiedIn)
+    → tidiedWithin (suc m) gs ≡ record { left = tidiedWithin m (step gs) .left; steps = suc (tidiedWithin m (step gs) .steps) }
+unfolding tidiedWithin
+goes-on m gs u = rw (u, tidiedWithin)
 
 -- ---- all of them
 
@@ -59,63 +59,63 @@ after-one-more k gs = ap (λ (m : ℕ). afterSteps m gs) (add-one k) ∙ go k gs
     go (suc k) gs = go k (step gs)
 
 -- the written procedure: a step while there is a pair that fits; the answer's steps are those taken
-pub record Procedure (gs : List Gate) (r : Tidied) : Type 0 where
+pub record Procedure (gs : List Gate) (r : Outcome) : Type 0 where
   pub left-is : r .left ≡ afterSteps (r .steps) gs
   pub used : (k : ℕ) → k < r .steps → untidy (afterSteps k gs) ≡ true
   pub ended : untidy (r .left) ≡ false
-  pub few : r .steps ≤ size gs
+  pub few : r .steps ≤ gatesAndControls gs
 
 none-taken : (gs : List Gate) → untidy gs ≡ false → Procedure gs (record { left = gs; steps = 0 })
 none-taken gs u = record { left-is = sym (after-none gs); used = λ k lt. absurd (omega arith); ended = u; few = omega arith }
 
-one-taken : (gs : List Gate) (r : Tidied) → untidy gs ≡ true → Procedure (step gs) r → Procedure gs (record { left = r .left; steps = suc (r .steps) })
+one-taken : (gs : List Gate) (r : Outcome) → untidy gs ≡ true → Procedure (step gs) r → Procedure gs (record { left = r .left; steps = suc (r .steps) })
 unfolding afterSteps
 one-taken gs r u w =
     record {
       left-is = w .left-is;
       used = uses;
       ended = w .ended;
-      few = omega (arith, w .few, stepped-size (step-stepped gs u));
+      few = omega (arith, w .few, stepped-gates-and-controls (step-stepped gs u));
     }
   where
     uses : (k : ℕ) → k < suc (r .steps) → untidy (afterSteps k gs) ≡ true
     uses zero lt = u
     uses (suc k) lt = w .used k (omega arith)
 
-follows : (m : ℕ) (gs : List Gate) → size gs ≤ m → Procedure gs (tidiedIn m gs)
+follows : (m : ℕ) (gs : List Gate) → gatesAndControls gs ≤ m → Procedure gs (tidiedWithin m gs)
 follows zero gs le =
-    ⊎-elim (λ (u : untidy gs ≡ true). absurd (omega (arith, stepped-size (step-stepped gs u))))
+    ⊎-elim (λ (u : untidy gs ≡ true). absurd (omega (arith, stepped-gates-and-controls (step-stepped gs u))))
     (λ (u : untidy gs ≡ false). subst (Procedure gs) (sym (stops zero gs u)) (none-taken gs u)) (decide (untidy gs))
 follows (suc m) gs le =
     ⊎-elim
     (λ (u : untidy gs ≡ true).
-    subst (Procedure gs) (sym (goes-on m gs u)) (one-taken gs (tidiedIn m (step gs)) u (follows m (step gs) (omega (arith, stepped-size (step-stepped gs u))))))
+    subst (Procedure gs) (sym (goes-on m gs u)) (one-taken gs (tidiedWithin m (step gs)) u (follows m (step gs) (omega (arith, stepped-gates-and-controls (step-stepped gs u))))))
     (λ (u : untidy gs ≡ false). subst (Procedure gs) (sym (stops (suc m) gs u)) (none-taken gs u)) (decide (untidy gs))
 
 -- what a step keeps, all of them keep
-pub kept : (P : List Gate → Type 0) → ((gs : List Gate) → untidy gs ≡ true → P gs → P (step gs)) → (gs : List Gate) → P gs → P (tidied gs .left)
-unfolding tidied tidiedIn
-kept P keep gs p = go (size gs) gs p
+pub steps-keep : (P : List Gate → Type 0) → ((gs : List Gate) → untidy gs ≡ true → P gs → P (step gs)) → (gs : List Gate) → P gs → P (tidied gs .left)
+unfolding tidied tidiedWithin
+steps-keep P keep gs p = go (gatesAndControls gs) gs p
   where
-    go : (m : ℕ) (gs : List Gate) → P gs → P (tidiedIn m gs .left)
+    go : (m : ℕ) (gs : List Gate) → P gs → P (tidiedWithin m gs .left)
     go zero gs p = p
     go (suc m) gs p =
-        ⊎-elim (λ (u : untidy gs ≡ true). subst (λ (r : Tidied). P (r .left)) (sym (goes-on m gs u)) (go m (step gs) (keep gs u p)))
-        (λ (u : untidy gs ≡ false). subst (λ (r : Tidied). P (r .left)) (sym (stops (suc m) gs u)) p) (decide (untidy gs))
+        ⊎-elim (λ (u : untidy gs ≡ true). subst (λ (r : Outcome). P (r .left)) (sym (goes-on m gs u)) (go m (step gs) (keep gs u p)))
+        (λ (u : untidy gs ≡ false). subst (λ (r : Outcome). P (r .left)) (sym (stops (suc m) gs u)) p) (decide (untidy gs))
 
 -- a list where nothing fits stays, in no step
 pub stays : (gs : List Gate) → untidy gs ≡ false → tidied gs ≡ record { left = gs; steps = 0 }
 unfolding tidied
-stays gs u = stops (size gs) gs u
+stays gs u = stops (gatesAndControls gs) gs u
 
 -- the procedure has one answer
-pub one-answer : (gs : List Gate) (r s : Tidied) → Procedure gs r → Procedure gs s → r ≡ s
+pub one-answer : (gs : List Gate) (r s : Outcome) → Procedure gs r → Procedure gs s → r ≡ s
 one-answer gs r s a b =
     let same : r .steps ≡ s .steps = omega (arith, not-before r s a b, not-before s r b a) in
     let lists : r .left ≡ s .left = a .left-is ∙ ap (λ (k : ℕ). afterSteps k gs) same ∙ sym (b .left-is) in
     λ i. record { left = lists i; steps = same i }
   where
-    not-before : (r s : Tidied) → Procedure gs r → Procedure gs s → s .steps ≤ r .steps
+    not-before : (r s : Outcome) → Procedure gs r → Procedure gs s → s .steps ≤ r .steps
     not-before r s a b =
         ⊎-elim (λ (l : ltb (r .steps) (s .steps) ≡ true). clash (untidy (r .left)) (ap untidy (a .left-is) ∙ b .used (r .steps) (ltb-true (r .steps) (s .steps) l)) (a .ended))
         (λ (l : ltb (r .steps) (s .steps) ≡ false). ltb-false (r .steps) (s .steps) l) (decide (ltb (r .steps) (s .steps)))
@@ -123,4 +123,4 @@ one-answer gs r s a b =
 -- tidying is the written procedure
 pub tidied-procedure : (gs : List Gate) → Procedure gs (tidied gs)
 unfolding tidied
-tidied-procedure gs = follows (size gs) gs (omega arith)
+tidied-procedure gs = follows (gatesAndControls gs) gs (omega arith)

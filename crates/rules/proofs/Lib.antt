@@ -1,8 +1,8 @@
 pub mod Places
 pub mod Rules
-pub mod Pairs
+pub mod FittingPairs
 pub mod Weights
-pub mod Steps
+pub mod TidySteps
 pub mod Endings
 pub mod Promises
-pub mod Words
+pub mod PairWords

@@ -33,14 +33,14 @@ keeps o c x lo lc lx quiet =
     (if-not (not (eqb c 3) && upsets o c) (Bool·beq (holds c (act o x)) (holds c x)) (triple-at keeps-test 6 4 3 refl o c x lo lc lx) quiet)
 
 -- operators of one type commute
-types-test : ℕ → ℕ → ℕ → Bool
-types-test a b x = cond (sameType a b) (eqb (act a (act b x)) (act b (act a x))) true
+commuting-test : ℕ → ℕ → ℕ → Bool
+commuting-test a b x = cond (sameType a b) (eqb (act a (act b x)) (act b (act a x))) true
 
 types-commute : (a b x : ℕ) → a < 6 → b < 6 → x < 3 → sameType a b ≡ true → act a (act b x) ≡ act b (act a x)
-unfolding types-test every sameType isC act
+unfolding commuting-test every sameType isC act
 types-commute a b x la lb lx same =
     eqb-true (act a (act b x)) (act b (act a x))
-    (if-so (sameType a b) (eqb (act a (act b x)) (act b (act a x))) (triple-at types-test 6 6 3 refl a b x la lb lx) same)
+    (if-so (sameType a b) (eqb (act a (act b x)) (act b (act a x))) (triple-at commuting-test 6 6 3 refl a b x la lb lx) same)
 
 -- ---- one gate
 
@@ -107,17 +107,17 @@ pub commute : (n : ℕ) (g h : Gate) → IsGate n g → IsGate n h → mayChange
 unfolding mayChange clashes
 commute n g h okg okh may p = go (ℕ-discrete (h .target) (g .target))
   where
-    none : (clashes g h || blocks g h || blocks h g) ≡ false
-    none = not-true (clashes g h || blocks g h || blocks h g) may
+    no-reason : (clashes g h || blocks g h || blocks h g) ≡ false
+    no-reason = not-true (clashes g h || blocks g h || blocks h g) may
 
-    none-yet : (clashes g h || blocks g h) ≡ false
-    none-yet = or-left (clashes g h || blocks g h) (blocks h g) none
+    no-reason-yet : (clashes g h || blocks g h) ≡ false
+    no-reason-yet = or-left (clashes g h || blocks g h) (blocks h g) no-reason
 
     x : ℕ
     x = digit 3 (g .target) p
 
     one-type : h .target ≡ g .target → sameType (g .operator) (h .operator) ≡ true
-    one-type e = not-false (sameType (g .operator) (h .operator)) (rw (eq-eqb (g .target) (h .target) (sym e)) at (or-left (clashes g h) (blocks g h) none-yet))
+    one-type e = not-false (sameType (g .operator) (h .operator)) (rw (eq-eqb (g .target) (h .target) (sym e)) at (or-left (clashes g h) (blocks g h) no-reason-yet))
 
     exchanged : sameType (g .operator) (h .operator) ≡ true → (b c : Bool)
         → turned c (h .operator) (turned b (g .operator) x) ≡ turned b (g .operator) (turned c (h .operator) x)
@@ -135,6 +135,6 @@ commute n g h okg okh may p = go (ℕ-discrete (h .target) (g .target))
         ∙ ap (put 3 (g .target) p) (exchanged (one-type e) (fires g p) (fires h p))
         ∙ sym (on-one-target h g (g .target) p e refl (okg .own))
     go (no ne) =
-        on-two-targets n g h p okg ne (or-right (clashes g h) (blocks g h) none-yet)
+        on-two-targets n g h p okg ne (or-right (clashes g h) (blocks g h) no-reason-yet)
         ∙ put-swap 3 (h .target) (g .target) p _ _ (below g) (below h) ne
-        ∙ sym (on-two-targets n h g p okh (λ e. ne (sym e)) (or-right (clashes g h || blocks g h) (blocks h g) none))
+        ∙ sym (on-two-targets n h g p okh (λ e. ne (sym e)) (or-right (clashes g h || blocks g h) (blocks h g) no-reason))

@@ -14,10 +14,10 @@ use Rattle.gates.specs.Gates.{IsGate}
 use Rattle.cascades.specs.Cascades.{ran, tableFor, tableOf, Cascade}
 use Rattle.cascades.specs.Prices.{gatePrice, cascadePrice}
 use Rattle.rules.specs.Rules.{fits}
-use Rattle.rules.specs.Tidying.{gate, isOpen, ruled, size, tidied}
+use Rattle.rules.specs.Tidying.{gate, isOpen, ruled, gatesAndControls, tidied}
 use Rattle.rules.proofs.Weights.{priceWith, price-plain}
-use Rattle.rules.proofs.Steps.{ruled-stepped, stepped-gates, stepped-keeps, stepped-count, stepped-price, step-stepped}
-use Rattle.rules.proofs.Endings.{Procedure, nothing-fits, kept, stays, tidied-procedure}
+use Rattle.rules.proofs.TidySteps.{ruled-stepped, stepped-gates, stepped-keeps, stepped-count, stepped-price, step-stepped}
+use Rattle.rules.proofs.Endings.{Procedure, nothing-fits, steps-keep, stays, tidied-procedure}
 
 -- a rule on an open pair, the first or any other, keeps what the cascade computes at every pattern
 pub rule-keeps : (n : ℕ) (gs : List Gate) (i j : ℕ) → Each (IsGate n) gs → i < j → j < length gs → isOpen gs i j ≡ true → fits (gate gs i) (gate gs j) ≡ true
@@ -25,13 +25,13 @@ pub rule-keeps : (n : ℕ) (gs : List Gate) (i j : ℕ) → Each (IsGate n) gs �
 rule-keeps n gs i j ok ij inside o f = stepped-keeps n (ruled-stepped gs i j ij inside o f) ok
 
 tidied-gates : (n : ℕ) (gs : List Gate) → Each (IsGate n) gs → Each (IsGate n) (tidied gs .left)
-tidied-gates n gs ok = kept (Each (IsGate n)) (λ l u e. stepped-gates n (step-stepped l u) e) gs ok
+tidied-gates n gs ok = steps-keep (Each (IsGate n)) (λ l u e. stepped-gates n (step-stepped l u) e) gs ok
 
 -- no price rises that is made of the base price, the controls of other values, and an amount for the operator that C1 and C2 do not cost
 pub tidied-price : (e : ℕ → ℕ) → e 1 ≡ 0 → e 2 ≡ 0 → (n v : ℕ) (gs : List Gate) → Each (IsGate n) gs
     → total (priceWith e v) (tidied gs .left) ≤ total (priceWith e v) gs
 tidied-price e c1 c2 n v gs ok =
-    kept (λ l. Each (IsGate n) l × (total (priceWith e v) l ≤ total (priceWith e v) gs))
+    steps-keep (λ l. Each (IsGate n) l × (total (priceWith e v) l ≤ total (priceWith e v) gs))
     (λ l u w. (stepped-gates n (step-stepped l u) (w .0), omega (arith, w .1, stepped-price e c1 c2 n v (step-stepped l u) (w .0)))) gs (ok, omega arith)
     .1
 
@@ -39,7 +39,7 @@ module _ (n : ℕ) (gs : List Gate) (ok : Cascade n gs) where
   -- it keeps what the cascade computes, at every pattern
   pub tidied-keeps : (p : ℕ) → ran (tidied gs .left) p ≡ ran gs p
   tidied-keeps p =
-      kept (λ l. Each (IsGate n) l × (ran l p ≡ ran gs p))
+      steps-keep (λ l. Each (IsGate n) l × (ran l p ≡ ran gs p))
       (λ l u w. (stepped-gates n (step-stepped l u) (w .0), stepped-keeps n (step-stepped l u) (w .0) p ∙ w .1)) gs (ok .gates, refl)
       .1
 
@@ -50,7 +50,7 @@ module _ (n : ℕ) (gs : List Gate) (ok : Cascade n gs) where
 
   -- it does not raise the gate count
   pub tidied-count : length (tidied gs .left) ≤ length gs
-  tidied-count = kept (λ l. length l ≤ length gs) (λ l u w. omega (arith, w, stepped-count (step-stepped l u))) gs (omega arith)
+  tidied-count = steps-keep (λ l. length l ≤ length gs) (λ l u w. omega (arith, w, stepped-count (step-stepped l u))) gs (omega arith)
 
   -- nor the cost, whatever the global control value
   pub tidied-cost : (v : ℕ) → cascadePrice v (tidied gs .left) ≤ cascadePrice v gs
@@ -73,7 +73,7 @@ pub tidied-steps : (gs : List Gate) → Procedure gs (tidied gs)
 tidied-steps gs = tidied-procedure gs
 
 -- and at most the gates plus controls given
-pub tidied-few : (gs : List Gate) → tidied gs .steps ≤ size gs
+pub tidied-few : (gs : List Gate) → tidied gs .steps ≤ gatesAndControls gs
 tidied-few gs = tidied-procedure gs .few
 
 -- tidied again it stays, in no step

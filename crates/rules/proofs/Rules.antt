@@ -189,13 +189,13 @@ module _ (g : Gate) (k v : ℕ) (lt : v < 4) where
         op-low = ok .op-low;
         op-high = ok .op-high;
         on-line = ok .on-line;
-        own = none (g .target) (ok .own);
-        beyond = λ j le l. none j (ok .beyond j le l);
+        own = still-none (g .target) (ok .own);
+        beyond = λ j le l. still-none j (ok .beyond j le l);
         packed = put-lt 4 6 k (g .controls) v (ok .packed) lk lt;
       }
     where
-      none : (j : ℕ) → control g j ≡ 3 → control (withControl g k v) j ≡ 3
-      none j e = go (ℕ-discrete j k)
+      still-none : (j : ℕ) → control g j ≡ 3 → control (withControl g k v) j ≡ 3
+      still-none j e = go (ℕ-discrete j k)
         where
           go : Dec (j ≡ k) → control (withControl g k v) j ≡ 3
           go (yes q) = ap (control (withControl g k v)) q ∙ with-here ∙ keep (ap (control g) (sym q) ∙ e)
@@ -243,10 +243,10 @@ ruled-gates n {g = g} {h = h} okg okh (reduce e) = let r = reduction g h e in ((
 -- what is left in the place of gate i may change places with each that gate i may
 loosened-may : (g h m : Gate) → Reduction g h → mayChange g m ≡ true → mayChange (loosened g h) m ≡ true
 unfolding mayChange clashes blocks loosened withControl
-loosened-may g h m r e = ap not (neither (clashes g m || blocks g m) (blocks m (loosened g h)) (or-left (clashes g m || blocks g m) (blocks m g) none) (go (ℕ-discrete (m .target) (lineOf g h))))
+loosened-may g h m r e = ap not (neither (clashes g m || blocks g m) (blocks m (loosened g h)) (or-left (clashes g m || blocks g m) (blocks m g) no-reason) (go (ℕ-discrete (m .target) (lineOf g h))))
   where
-    none : (clashes g m || blocks g m || blocks m g) ≡ false
-    none = not-true (clashes g m || blocks g m || blocks m g) e
+    no-reason : (clashes g m || blocks g m || blocks m g) ≡ false
+    no-reason = not-true (clashes g m || blocks g m || blocks m g) e
 
     neither : (a b : Bool) → a ≡ false → b ≡ false → (a || b) ≡ false
     neither a b p q = rw (p, q)
@@ -256,7 +256,7 @@ loosened-may g h m r e = ap not (neither (clashes g m || blocks g m) (blocks m (
 
     go : Dec (m .target ≡ lineOf g h) → blocks m (loosened g h) ≡ false
     go (yes q) = ap upset-by (ap (control (loosened g h)) q ∙ loosened-here g h r)
-    go (no ne) = ap upset-by (loosened-other g h r (m .target) ne) ∙ or-right (clashes g m || blocks g m) (blocks m g) none
+    go (no ne) = ap upset-by (loosened-other g h r (m .target) ne) ∙ or-right (clashes g m || blocks g m) (blocks m g) no-reason
 
 pub ruled-may : {g h : Gate} {a b : List Gate} (ms : List Gate) → Ruled g h a b → Each (λ m. mayChange g m ≡ true) ms
     → Each (λ x. Each (λ m. mayChange x m ≡ true) ms) a

@@ -79,12 +79,12 @@ gates-fall (merge e) = omega arith
 gates-fall (reduce e) = omega arith
 
 -- and fewer gates and controls
-pub size-falls : {g h : Gate} {a b : List Gate} → Ruled g h a b
+pub gates-and-controls-fall : {g h : Gate} {a b : List Gate} → Ruled g h a b
     → total (λ x. suc (controlCount x)) a + total (λ x. suc (controlCount x)) b + 1 ≤ suc (controlCount g) + suc (controlCount h)
 unfolding total
-size-falls (cancel e) = omega arith
-size-falls {h = h} (merge e) = omega (arith, inverse-count h)
-size-falls {g} {h} (reduce e) = let r = reduction g h e in omega (arith, loosened-count g h r, retuned-count g h r)
+gates-and-controls-fall (cancel e) = omega arith
+gates-and-controls-fall {h = h} (merge e) = omega (arith, inverse-count h)
+gates-and-controls-fall {g} {h} (reduce e) = let r = reduction g h e in omega (arith, loosened-count g h r, retuned-count g h r)
 
 -- ---- the price
 

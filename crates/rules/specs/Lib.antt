@@ -1,4 +1,4 @@
+pub mod Inner
 pub mod Places
 pub mod Rules
 pub mod Tidying
-pub mod Words

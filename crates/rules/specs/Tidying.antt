@@ -57,25 +57,25 @@ unfoldable pub step : List Gate → List Gate
 step gs = ruled gs (firstI gs) (firstJ gs (firstI gs))
 
 -- what is left, and how many steps it took
-pub record Tidied : Type 0 where
+pub record Outcome : Type 0 where
   pub left : List Gate
   pub steps : ℕ
 
 -- steps from the start, at most m of them, until none fits
-unfoldable pub tidiedIn : ℕ → List Gate → Tidied
-tidiedIn zero gs = record { left = gs; steps = 0 }
-tidiedIn (suc m) gs =
+unfoldable pub tidiedWithin : ℕ → List Gate → Outcome
+tidiedWithin zero gs = record { left = gs; steps = 0 }
+tidiedWithin (suc m) gs =
     elim (untidy gs) [
       | false ↦ record { left = gs; steps = 0 }
-      | true ↦ let r = tidiedIn m (step gs) in record { left = r .left; steps = suc (r .steps) }
+      | true ↦ let r = tidiedWithin m (step gs) in record { left = r .left; steps = suc (r .steps) }
     ]
 
 -- gates and controls, which no step leaves as many
-unfoldable pub size : List Gate → ℕ
-size gs = total (λ g. suc (controlCount g)) gs
+unfoldable pub gatesAndControls : List Gate → ℕ
+gatesAndControls gs = total (λ g. suc (controlCount g)) gs
 
-unfoldable pub tidied : List Gate → Tidied
-tidied gs = tidiedIn (size gs) gs
+unfoldable pub tidied : List Gate → Outcome
+tidied gs = tidiedWithin (gatesAndControls gs) gs
 
 -- 1 6 7
 unfoldable pub tidyAnswer : ℕ → List ℕ → Answer

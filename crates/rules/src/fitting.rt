@@ -8,7 +8,7 @@ ghost use Rattle.digits.specs.Digits.{digit};
 ghost use Rattle.gates.specs.Gates.{inverse};
 ghost use Rattle.gates.specs.Inner.Words.{gateOf, GateWord};
 ghost use Rattle.rules.specs.Rules.{reduces, fits, loosened, retuned};
-ghost use Rattle.rules.specs.Words.{ruleFor, ruleBy};
+ghost use Rattle.rules.specs.Inner.NamedRules.{ruleFor, ruleBy};
 use gates::Gate;
 
 // The rules by name.
@@ -19,7 +19,7 @@ pub enum Rule {
     Nothing,
 }
 
-// One target, and operators that a rule takes.
+// One target (byte 1 of a record), and operators (byte 0) that a rule takes.
 fn may_fit(g: u64, h: u64) -> bool
     requires { ⌜ GateWord g × GateWord h ⌝ }
     ensures { λ r. ⌜ (r ≡ true → gateOf g .target ≡ gateOf h .target) × (r ≡ false → ruleFor (gateOf g) (gateOf h) ≡ Rule.Nothing) ⌝ }
@@ -55,8 +55,8 @@ fn rule_by(a: u8, b: u8, apart: u64) -> Rule
     if a == b { Rule::Reduce } else { Rule::Nothing }
 }
 
-// The rule that fits. Few pairs of gates get past the look at targets and operators, and only these are compared line by line; modulo 255 the bytes
-// that mark lines are counted.
+// The rule that fits. Few pairs of gates get past the look at targets and operators, and only these are compared line by line; h / 0x1_0000 has the
+// bytes of its controls, and modulo 255 the bytes that mark lines are counted.
 pub fn rule_for(g: u64, h: u64) -> Rule
     requires { ⌜ GateWord g × GateWord h ⌝ }
     ensures { λ r. ⌜ r ≡ ruleFor (gateOf g) (gateOf h) ⌝ }
@@ -67,7 +67,7 @@ pub fn rule_for(g: u64, h: u64) -> Rule
     if gates::words::mark_controls(g) != gates::words::mark_controls(h) {
         return Rule::Nothing;
     }
-    let apart = gates::words::mark_others(g, h / 65536) % 255;
+    let apart = gates::words::mark_others(g, h / 0x1_0000) % 255;
     rule_by((g % 256) as u8, (h % 256) as u8, apart)
 }
 
@@ -85,7 +85,7 @@ pub fn fits_pair(g: u64, h: u64) -> bool
 }
 
 // The gate with the inverse operator.
-pub fn invert(h: Gate) -> Gate
+pub fn invert_gate(h: Gate) -> Gate
     ensures { λ r. ⌜ r ≡ inverse h ⌝ }
 {
     Gate {

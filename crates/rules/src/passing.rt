@@ -14,17 +14,17 @@ pub fn is_c(o: u8) -> bool
     o == 1 || o == 2
 }
 
-// The gate's control on line t.
+// The gate's control on line t: byte 2 + t of the record, after the operator and the target, which are the two bytes below 0x1_0000.
 fn control_in(w: u64, t: u64) -> u64
     requires { ⌜ GateWord w × (t ≤ 6) ⌝ }
     ensures { λ r. ⌜ (r ≡ control (gateOf w) t) × (r < 4) ⌝ }
 {
-    (w / 65536 >> (8 * t)) % 256
+    (w / 0x1_0000 >> (8 * t)) % 256
 }
 
 // Hexadecimal digit o, counted from the low end, has the control values that operator o upsets, bit v for value v: of C1 and C2 (digits 1 and 2) 0, 1
 // and 2, of N all but 1, of D all but 0, of E all but 2. Value 3 is no control, so no digit has bit 3; and digit 0 is a gap's.
-const UPSETS: u64 = 0x365770;
+const UPSETS: u64 = 0x36_5770;
 
 // 1 where the target of g is a control of h that g upsets, else 0.
 fn blocks_gate(g: u64, h: u64) -> u64
@@ -35,9 +35,9 @@ fn blocks_gate(g: u64, h: u64) -> u64
     (UPSETS >> (4 * (g % 256) + v)) % 2
 }
 
-// Byte a, counted from the low end, has the operators that are not of one type with operator a, bit b for operator b: all of 0 to 5 but a itself and, for
-// C1 and C2 (bytes 1 and 2), the other C.
-const APART: u64 = 0x1f2f3739393e;
+// Byte a, counted from the low end, has the operators that are not of one type with operator a, bit b for operator b: all of 0 to 5 but a itself and,
+// for C1 and C2 (bytes 1 and 2), the other C.
+const APART: u64 = 0x1f2f_3739_393e;
 
 // 1 where two operators are not of one type, else 0.
 fn types_apart(a: u64, b: u64) -> u64

@@ -23,7 +23,7 @@ use Rattle.gates.specs.Inner.Firing.{fires}
 use Rattle.gates.specs.Inner.Quads.{quad}
 use Rattle.gates.proofs.Gates.{holds-none}
 use Rattle.synthesis.specs.Synthesis.{controlFor, gateFor}
-use Rattle.synthesis.specs.Steps.{fullControls}
+use Rattle.synthesis.specs.Inner.TableSteps.{fullControls}
 use Rattle.synthesis.proofs.Exchangers.{exchanger-op}
 
 -- ---- a control and the value of its line
@@ -113,11 +113,11 @@ named-lt n a j = go (leb n j) (digit-lt 3 j a three-pos)
 
 -- both bits of line k
 abbrev both : ℕ → ℕ
-both k = 3 * 2 ^ (2 * k) % 65536
+both k = 3 * 2 ^ (2 * k) % 0x1_0000
 
 both-lt : (k : ℕ) → k < 6 → both k < 4 ^ 6
 unfolding every
-both-lt k lt = ltb-true (both k) 4096 (every-below (λ k. ltb (both k) 4096) 6 refl k lt)
+both-lt k lt = ltb-true (both k) 0x1000 (every-below (λ k. ltb (both k) 0x1000) 6 refl k lt)
 
 both-there : (k : ℕ) → k < 6 → digit 4 k (both k) ≡ 3
 unfolding every digit
@@ -173,27 +173,27 @@ full-same n a b j lt e = full-digit n a j lt ∙ ap (cond (leb n j) 3) e ∙ sym
 
 -- ---- as the code makes them: the digits of a, and 3 added from line n up
 
-none : ℕ → ℕ → ℕ
-none n j = cond (leb n j) 3 0
+none-from : ℕ → ℕ → ℕ
+none-from n j = cond (leb n j) 3 0
 
 abbrev shift : ℕ → ℕ
-shift n = 1 * 2 ^ (2 * n) % 65536
+shift n = 1 * 2 ^ (2 * n) % 0x1_0000
 
-none-packed : (n : ℕ) → n ≤ 6 → (pack 4 (none n) 6 ≡ 4096 - shift n) × (shift n ≤ 4096)
-unfolding every pack sum none
+none-packed : (n : ℕ) → n ≤ 6 → (pack 4 (none-from n) 6 ≡ 0x1000 - shift n) × (shift n ≤ 0x1000)
+unfolding every pack sum none-from
 none-packed n lines = (
-  eqb-true (pack 4 (none n) 6) (4096 - shift n) (every-below (λ n. eqb (pack 4 (none n) 6) (4096 - shift n)) 7 refl n (omega arith)),
-  leb-true (shift n) 4096 (every-below (λ n. leb (shift n) 4096) 7 refl n (omega arith)),
+  eqb-true (pack 4 (none-from n) 6) (0x1000 - shift n) (every-below (λ n. eqb (pack 4 (none-from n) 6) (0x1000 - shift n)) 7 refl n (omega arith)),
+  leb-true (shift n) 0x1000 (every-below (λ n. leb (shift n) 0x1000) 7 refl n (omega arith)),
 )
 
-pub none-fits : (n : ℕ) → n ≤ 6 → shift n ≤ 4096
-none-fits n lines = none-packed n lines .1
+pub shift-fits : (n : ℕ) → n ≤ 6 → shift n ≤ 0x1000
+shift-fits n lines = none-packed n lines .1
 
-pub full-made : (n a q : ℕ) → n ≤ 6 → a < 3 ^ n → q ≡ quad a → q + (4096 - shift n) ≡ fullControls n a
-unfolding quad fullControls none
+pub full-made : (n a q : ℕ) → n ≤ 6 → a < 3 ^ n → q ≡ quad a → q + (0x1000 - shift n) ≡ fullControls n a
+unfolding quad fullControls none-from
 full-made n a q lines below eq =
-    omega (arith, eq, none-packed n lines .0, pack-add 4 (λ j. digit 3 j a) (none n) 6) ∙ pack-ext 4 (λ j. digit 3 j a + none n j) (named n a) 6 (λ j lt. same j (lt-or-le j n))
+    omega (arith, eq, none-packed n lines .0, pack-add 4 (λ j. digit 3 j a) (none-from n) 6) ∙ pack-ext 4 (λ j. digit 3 j a + none-from n j) (named n a) 6 (λ j lt. same j (lt-or-le j n))
   where
-    same : (j : ℕ) → (j < n) ⊎ (n ≤ j) → digit 3 j a + none n j ≡ named n a j
+    same : (j : ℕ) → (j < n) ⊎ (n ≤ j) → digit 3 j a + none-from n j ≡ named n a j
     same j (_⊎_.inl l) = rw (lt-leb n j l) (add-zero _)
     same j (_⊎_.inr l) = rw (le-leb n j l, digit-high 3 n j a three-pos below l)

@@ -16,12 +16,12 @@ use Rattle.gates.specs.Records.{recordOf}
 use Rattle.gates.specs.Inner.Words.{bytesIn}
 use Rattle.cascades.specs.Cascades.{bytesOf}
 use Rattle.cascades.proofs.Stored.{length-bytes}
-use Rattle.synthesis.specs.Steps.{Lays}
+use Rattle.synthesis.specs.Inner.TableSteps.{WordsLaid}
 
 -- ---- runs
 
-pub lays-none : (e : ℕ) (ws : List ℕ) → Lays [] e e ws ws
-lays-none e ws = record { count = add-zero e; size = refl; words = refl }
+pub laid-none : (e : ℕ) (ws : List ℕ) → WordsLaid [] e e ws ws
+laid-none e ws = record { count = add-zero e; size = refl; words = refl }
 
 -- a word right before others
 word-laid : (w e : ℕ) (ws : List ℕ) → 1 ≤ e → e ≤ length ws → drop (e - 1) (set ws (e - 1) w) ≡ w ∷ drop e ws
@@ -31,8 +31,8 @@ word-laid w e ws some le =
     let beyond : drop (suc (e - 1)) (set ws (e - 1) w) ≡ drop (suc (e - 1)) ws = drop-set-lt (suc (e - 1)) ws (e - 1) w (omega arith) in
     rw (there, beyond, next) at (drop-cons (set ws (e - 1) w) (e - 1) 0 (omega (arith, length-set ws (e - 1) w)))
 
-pub lays-word : (g : Gate) (w e : ℕ) (ws : List ℕ) → bytesIn w ≡ recordOf g → 1 ≤ e → e ≤ length ws → Lays (g ∷ []) (e - 1) e ws (set ws (e - 1) w)
-lays-word g w e ws is some le =
+pub word-before : (g : Gate) (w e : ℕ) (ws : List ℕ) → bytesIn w ≡ recordOf g → 1 ≤ e → e ≤ length ws → WordsLaid (g ∷ []) (e - 1) e ws (set ws (e - 1) w)
+word-before g w e ws is some le =
     record {
       count = omega arith;
       size = length-set ws (e - 1) w;
@@ -40,8 +40,8 @@ lays-word g w e ws is some le =
     }
 
 -- a run before another
-pub lays-more : (gs hs : List Gate) (e e′ c : ℕ) (ws ws′ ws″ : List ℕ) → Lays gs e c ws ws′ → Lays hs e′ e ws′ ws″ → Lays (hs ++ gs) e′ c ws ws″
-lays-more gs hs e e′ c ws ws′ ws″ w u =
+pub laid-more : (gs hs : List Gate) (e e′ c : ℕ) (ws ws′ ws″ : List ℕ) → WordsLaid gs e c ws ws′ → WordsLaid hs e′ e ws′ ws″ → WordsLaid (hs ++ gs) e′ c ws ws″
+laid-more gs hs e e′ c ws ws′ ws″ w u =
     record {
       count = omega (arith, w .count, u .count, length-append hs gs);
       size = u .size ∙ w .size;
@@ -65,11 +65,11 @@ bytes-flat [] = refl
 bytes-flat (g ∷ gs) = ap (λ (x : List ℕ). recordOf g ++ x) (bytes-flat gs)
 
 -- the words at a list's end are as many as the gates
-pub part-length : (gs : List Gate) (e : ℕ) (ws ws′ : List ℕ) → Lays gs e (length ws) ws ws′ → length (take (length ws′ - e) (drop e ws′)) ≡ length gs
+pub part-length : (gs : List Gate) (e : ℕ) (ws ws′ : List ℕ) → WordsLaid gs e (length ws) ws ws′ → length (take (length ws′ - e) (drop e ws′)) ≡ length gs
 part-length gs e ws ws′ w = length-take-le (length ws′ - e) (drop e ws′) (rw (length-drop e ws′) (le-refl _)) ∙ omega (arith, w .count, w .size)
 
 -- the words of a cascade at a list's end, stored from the start of a room on, are the cascade
-pub cascade-laid : (gs : List Gate) (e : ℕ) (ws ws′ room : List ℕ) → Lays gs e (length ws) ws ws′ → 8 * length gs ≤ length room
+pub cascade-laid : (gs : List Gate) (e : ℕ) (ws ws′ room : List ℕ) → WordsLaid gs e (length ws) ws ws′ → 8 * length gs ≤ length room
     → sets room 0 (flatMap bytesIn (take (length ws′ - e) (drop e ws′))) ≡ laid (bytesOf gs) room
 cascade-laid gs e ws ws′ room w fits =
     let all : map bytesIn (drop e ws′) ≡ map recordOf gs = w .words ∙ ap (λ (x : List ℕ). map recordOf gs ++ map bytesIn x) (drop-length ws) ∙ append-nil (map recordOf gs) in

@@ -1,10 +1,10 @@
 pub mod Exchangers
 pub mod Controls
-pub mod Lines
+pub mod DifferingLines
 pub mod Ternary
 pub mod Synthesis
 pub mod Pairings
 pub mod Moves
 pub mod Layings
-pub mod Rows
-pub mod Answers
+pub mod SettlingRows
+pub mod SynthesisAnswers

@@ -20,7 +20,7 @@ use Rattle.procedure.specs.Inner.Exchanges.{exchanged}
 use Rattle.procedure.proofs.Steps.{begun, step-same, step-other, row-next, row-grows, rows-next, rows-grow}
 use Rattle.procedure.proofs.Swaps.{gate-exchanges}
 use Rattle.synthesis.specs.Synthesis.{gateFor, synthesized}
-use Rattle.synthesis.specs.Steps.{stepFrom, rowFrom, rowsFrom, Paired, Present, Reached}
+use Rattle.synthesis.specs.Inner.TableSteps.{stepFrom, rowFrom, rowsFrom, Paired, Present, TableReached}
 use Rattle.synthesis.proofs.Ternary.{ternary}
 use Rattle.synthesis.proofs.Pairings.{present-permutation}
 
@@ -51,10 +51,10 @@ module _ (n i k a d : ℕ) (t v : List ℕ) (w : Present n t v) (below : i < 3 ^
         rw (← exchanges, ed, ea) (step-other 3 applied gateFor n i k (begun t) (λ e. ne (ap (digit 3 k) ea ∙ e ∙ sym ed)))
 
 -- nothing was moved, or two values were exchanged
-pub still : (n : ℕ) (t v : List ℕ) (z : State Gate) → Present n t v → z ≡ begun t → Reached n z t v
+pub still : (n : ℕ) (t v : List ℕ) (z : State Gate) → Present n t v → z ≡ begun t → TableReached n z t v
 still n t v z w e = rw e (record { table = refl; present = w })
 
-pub exchanged-there : (n : ℕ) (t v t′ v′ : List ℕ) (f : ℕ → ℕ) (z : State Gate) → Present n t v → t′ ≡ map f t → Paired t′ v′ → map f t ≡ z .table → Reached n z t′ v′
+pub exchanged-there : (n : ℕ) (t v t′ v′ : List ℕ) (f : ℕ → ℕ) (z : State Gate) → Present n t v → t′ ≡ map f t → Paired t′ v′ → map f t ≡ z .table → TableReached n z t′ v′
 exchanged-there n t v t′ v′ f z w e pair q =
     record { table = e ∙ q; present = record { lines = w .lines; size = ap length e ∙ length-map t f ∙ w .size; pair = pair } }
 
@@ -74,11 +74,11 @@ row-skip n i j k t le =
     ap (digitStep 3 applied gateFor n i m) (ih (λ l x y. h l x (omega arith)))
     ∙ step-same 3 applied gateFor n i m (rowFrom n i j t) (h m lo (omega arith))) k le
 
-module _ (n i k : ℕ) (t t′ v′ : List ℕ) (at : Reached n (rowFrom n i k t) t′ v′) where
+module _ (n i k : ℕ) (t t′ v′ : List ℕ) (at : TableReached n (rowFrom n i k t) t′ v′) where
   pub row-found : rowFrom n i (k + 1) t .found ≡ stepFrom n i k t′ .found ++ rowFrom n i k t .found
   row-found = rw (add-one k, at .table) (ap (λ (z : State Gate). z .found) (row-next 3 applied gateFor n i k (begun t)))
 
-  pub row-more : (t″ v″ : List ℕ) → Reached n (stepFrom n i k t′) t″ v″ → Reached n (rowFrom n i (k + 1) t) t″ v″
+  pub row-more : (t″ v″ : List ℕ) → TableReached n (stepFrom n i k t′) t″ v″ → TableReached n (rowFrom n i (k + 1) t) t″ v″
   row-more t″ v″ w =
       record {
         table =
@@ -106,7 +106,7 @@ pub rows-none : (n : ℕ) (t : List ℕ) → rowsFrom n 0 t ≡ begun t
 unfolding rows
 rows-none n t = refl
 
-module _ (n i : ℕ) (t t′ v′ : List ℕ) (at : Reached n (rowsFrom n i t) t′ v′) where
+module _ (n i : ℕ) (t t′ v′ : List ℕ) (at : TableReached n (rowsFrom n i t) t′ v′) where
   pub rows-found : rowsFrom n (i + 1) t .found ≡ rowFrom n i n t′ .found ++ rowsFrom n i t .found
   rows-found = rw (add-one i, at .table) (ap (λ (z : State Gate). z .found) (rows-next 3 applied gateFor n i (begun t)))
 
@@ -114,7 +114,7 @@ module _ (n i : ℕ) (t t′ v′ : List ℕ) (at : Reached n (rowsFrom n i t) t
   rows-room e total lt fits q =
       omega (arith, ap length rows-found ∙ length-append (rowFrom n i n t′ .found) (rowsFrom n i t .found), rows-within n (i + 1) t (omega arith))
 
-  pub rows-more : (t″ v″ : List ℕ) → Reached n (rowFrom n i n t′) t″ v″ → Reached n (rowsFrom n (i + 1) t) t″ v″
+  pub rows-more : (t″ v″ : List ℕ) → TableReached n (rowFrom n i n t′) t″ v″ → TableReached n (rowsFrom n (i + 1) t) t″ v″
   rows-more t″ v″ w =
       record {
         table =

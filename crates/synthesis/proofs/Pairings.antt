@@ -14,7 +14,7 @@ use Rattle.tables.specs.Inner.Inverses.{Inverted}
 use Rattle.procedure.specs.Inner.Exchanges.{exchanged}
 use Rattle.procedure.proofs.Swaps.{at-one, at-other, at-none, exchanged-twice, exchanged-lt}
 use Rattle.procedure.proofs.Pairs.{onto}
-use Rattle.synthesis.specs.Steps.{Paired, Present}
+use Rattle.synthesis.specs.Inner.TableSteps.{Paired, Present}
 
 -- ---- two values change places: a, which stands in row x, and b, which stands in row y
 

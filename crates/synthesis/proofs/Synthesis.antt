@@ -1,5 +1,5 @@
 -- What the cascade of a permutation is worth: it computes the table (`synthesized-computes`), each of its gates is one on n lines (`synthesized-cascade`),
--- reversed and inverted it computes the inverse table (`synthesized-undone`), and it has no more gates than the room asked (`synthesized-bound`).
+-- reversed and inverted it computes the inverse table (`synthesized-undone`), and it has no more gates than the bound (`synthesized-bound`).
 -- These are the procedure's theorems for the ternary family. Assumes nothing.
 use mathlib.Core.Path.{_≡_, sym, ap, _∙_}
 use mathlib.Core.List.{List}
@@ -23,7 +23,7 @@ use Rattle.synthesis.specs.Synthesis.{gateFor, synthesized, bound}
 use Rattle.synthesis.proofs.Controls.{is-gate}
 use Rattle.synthesis.proofs.Ternary.{ternary}
 
--- the room asked grows with the lines: at most 4,010 records on six
+-- the bound grows with the lines: 4,010 records on six
 bound-grows : (n m : ℕ) → n ≤ suc m → bound n ≤ bound (suc m)
 unfolding bound
 bound-grows zero m le = omega arith

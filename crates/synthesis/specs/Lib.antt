@@ -1,2 +1,2 @@
 pub mod Synthesis
-pub mod Steps
+pub mod Inner

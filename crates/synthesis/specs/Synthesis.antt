@@ -1,4 +1,4 @@
--- From table to cascade: the gate that is added, the cascade, the room asked, and the call.
+-- From table to cascade: the gate that is added, the cascade, the bound on its gates, and the call.
 use Prim.Native.Nat.{ℕ, _+_, _-_, _*_, _/_, _^_}
 use mathlib.Core.Bool.{cond, _||_}
 use mathlib.Core.List.{List, [], _∷_}
@@ -28,7 +28,7 @@ gateFor n k a d = record { operator = exchanger (digit 3 k a) d; target = k; con
 unfoldable pub synthesized : ℕ → List ℕ → List Gate
 synthesized n t = cascadeFor 3 applied gateFor n t
 
--- the records asked of the room
+-- the bound: so many records the room must take
 unfoldable pub bound : ℕ → ℕ
 bound n = n * 3 ^ n - (3 ^ n - 1) / 2
 

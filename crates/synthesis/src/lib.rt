@@ -1,4 +1,4 @@
-// From table to cascade: the table is checked, room is asked, the gates are found, and their records written.
+// From table to cascade: the table is checked, then the room, the gates are found, and their records written.
 ghost use mathlib.Core.Path.{_≡_};
 ghost use Prim.Native.Nat.{_≤_};
 ghost use lib.ListN.{length};
@@ -12,8 +12,8 @@ pub mod settling;
 use cascades::Counted;
 use tables::Checked;
 
-// The records asked of the room.
-fn room_asked(n: usize) -> usize
+// The bound: so many records the room must take, whatever the table.
+fn compute_bound(n: usize) -> usize
     requires { ⌜ n ≤ 6 ⌝ }
     ensures { λ r. ⌜ r ≡ bound n ⌝ }
 {
@@ -41,11 +41,11 @@ fn synthesize_in(
         };
     }
     let n = lines as usize;
-    let asked = room_asked(n);
-    if room.len() / 8 < asked {
+    let bound = compute_bound(n);
+    if room.len() / 8 < bound {
         return Counted::Refused {
             number: 5,
-            place: asked,
+            place: bound,
         };
     }
     let size = table.len();

@@ -9,10 +9,10 @@ ghost use Rattle.card.specs.Card.{laid};
 ghost use Rattle.gates.specs.Inner.Words.{bytesIn};
 ghost use Rattle.cascades.specs.Cascades.{bytesOf};
 ghost use Rattle.synthesis.specs.Synthesis.{synthesized};
-ghost use Rattle.synthesis.specs.Steps.{Present, Lays};
+ghost use Rattle.synthesis.specs.Inner.TableSteps.{Present, WordsLaid, CascadeRoom};
 
 // The given table, copied.
-fn copy(given: &[u16], table: &mut [u16])
+fn copy_table(given: &[u16], table: &mut [u16])
     requires { ⌜ length (now table) ≡ length (now given) ⌝ }
     ensures { λ _. ⌜ now (table .exit) ≡ now (given .entry) ⌝ }
 {
@@ -23,7 +23,8 @@ fn copy(given: &[u16], table: &mut [u16])
     }
 }
 
-// All rows, with a lent array for the controls that name the patterns: the words of the gates, up to the end of the room for them. Says where they begin.
+// All rows, with a lent array for the controls that name the patterns: the words of the gates, up to the end of the room for them. Says where they
+// begin.
 fn find_rows(
     n: usize,
     full: &mut [u16],
@@ -31,10 +32,8 @@ fn find_rows(
     inverse: &mut [u16],
     words: &mut [u64],
 ) -> usize
-    requires { ⌜ Present n (now table) (now inverse) ⌝ }
-    requires { ⌜ length (now full) ≡ 729 ⌝ }
-    requires { ⌜ length (synthesized n (now table)) ≤ length (now words) ⌝ }
-    ensures { λ r. ⌜ Lays (synthesized n (now (table .entry))) r (length (now (words .entry))) (now (words .entry)) (now (words .exit)) ⌝ }
+    requires { ⌜ Present n (now table) (now inverse) × (length (now full) ≡ 729) × (length (synthesized n (now table)) ≤ length (now words)) ⌝ }
+    ensures { λ r. ⌜ WordsLaid (synthesized n (now (table .entry))) r (length (now (words .entry))) (now (words .entry)) (now (words .exit)) ⌝ }
 {
     crate::making::name_patterns(n, full);
     let mut start = words.len();
@@ -50,14 +49,14 @@ fn find_rows(
 fn find_gates(n: usize, table: &mut [u16], inverse: &mut [u16], words: &mut [u64]) -> usize
     requires { ⌜ Present n (now table) (now inverse) ⌝ }
     requires { ⌜ length (synthesized n (now table)) ≤ length (now words) ⌝ }
-    ensures { λ r. ⌜ Lays (synthesized n (now (table .entry))) r (length (now (words .entry))) (now (words .entry)) (now (words .exit)) ⌝ }
+    ensures { λ r. ⌜ WordsLaid (synthesized n (now (table .entry))) r (length (now (words .entry))) (now (words .entry)) (now (words .exit)) ⌝ }
 {
     let mut full = [0u16; 729];
     find_rows(n, &mut full, table, inverse, words)
 }
 
 // The records of the words, stored one after the other.
-fn write_gates(words: &[u64], room: &mut [u8])
+fn write_words(words: &[u64], room: &mut [u8])
     requires { ⌜ 8 * length (now words) ≤ length (now room) ⌝ }
     ensures { λ _. ⌜ now (room .exit) ≡ sets (now (room .entry)) 0 (flatMap bytesIn (now (words .entry))) ⌝ }
 {
@@ -77,14 +76,11 @@ pub fn write_cascade(
     words: &mut [u64],
     room: &mut [u8],
 ) -> usize
-    requires { ⌜ Present n (now given) (now inverse) ⌝ }
-    requires { ⌜ length (now table) ≡ length (now given) ⌝ }
-    requires { ⌜ length (synthesized n (now given)) ≤ length (now words) ⌝ }
-    requires { ⌜ 8 * length (synthesized n (now given)) ≤ length (now room) ⌝ }
+    requires { ⌜ CascadeRoom n (now given) (now inverse) (now table) (now words) (now room) ⌝ }
     ensures { λ r. ⌜ (r ≡ length (synthesized n (now (given .entry)))) × (now (room .exit) ≡ laid (bytesOf (synthesized n (now (given .entry)))) (now (room .entry))) ⌝ }
 {
-    copy(given, table);
+    copy_table(given, table);
     let start = find_gates(n, table, inverse, words);
-    write_gates(&words[start..], room);
+    write_words(&words[start..], room);
     words.len() - start
 }

@@ -5,12 +5,11 @@ ghost use mathlib.Core.List.{map};
 ghost use Prim.Native.Nat.{ℕ, _^_, _≤_, _<_};
 ghost use lib.ListN.{length};
 ghost use Rattle.procedure.specs.Inner.Exchanges.{exchanged};
-ghost use Rattle.synthesis.specs.Steps.{rowFrom, Paired, Reached, Lowest, Row, Lays};
+ghost use Rattle.synthesis.specs.Inner.TableSteps.{rowFrom, Paired, TableReached, LowestLine, RowToSettle, WordsLaid};
 
 // Two values change places in a table and in its inverse.
 pub fn exchange(table: &mut [u16], inverse: &mut [u16], a: u16, b: u16)
-    requires { ⌜ Paired (now table) (now inverse) ⌝ }
-    requires { ⌜ (a < length (now table)) × (b < length (now table)) ⌝ }
+    requires { ⌜ Paired (now table) (now inverse) × (a < length (now table)) × (b < length (now table)) ⌝ }
     ensures { λ _. ⌜ now (table .exit) ≡ map (exchanged a b) (now (table .entry)) ⌝ }
     ensures { λ _. ⌜ Paired (now (table .exit)) (now (inverse .exit)) ⌝ }
 {
@@ -23,15 +22,16 @@ pub fn exchange(table: &mut [u16], inverse: &mut [u16], a: u16, b: u16)
 }
 
 // The first line on which left has a digit other than 0.
-fn lowest(left: u16) -> usize
+fn find_line(left: u16) -> usize
     requires { ⌜ (0 < left) × (left < 4 ^ 6) ⌝ }
-    ensures { λ r. ⌜ Lowest left r ⌝ }
+    ensures { λ r. ⌜ LowestLine left r ⌝ }
 {
     (u16::trailing_zeros(left) / 2) as usize
 }
 
 // Row i: the words of its gates, laid before a place. Says where the words begin now.
-// A turn for each gate: `left` has a bit for each line on which the present entry a and i differ, the lower of its two, and on these a is as it came.
+// A turn for each gate: `left` has a bit for each line on which the present entry a and i differ, the lower of its two
+// (0x555 has these for six lines), and on these a is as it came.
 pub fn find_row(
     i: usize,
     full: &[u16],
@@ -40,10 +40,10 @@ pub fn find_row(
     words: &mut [u64],
     end: usize,
 ) -> usize
-    requires { ⌜ Row i (now full) (now table) (now inverse) end ⌝ }
+    requires { ⌜ RowToSettle i (now full) (now table) (now inverse) end ⌝ }
     requires { ⌜ end ≤ length (now words) ⌝ }
-    ensures { λ r. ⌜ ((n : ℕ) → length (now (table .entry)) ≡ 3 ^ n → Lays (rowFrom n i n (now (table .entry)) .found) r end (now (words .entry)) (now (words .exit))) ⌝ }
-    ensures { λ _. ⌜ ((n : ℕ) → length (now (table .entry)) ≡ 3 ^ n → Reached n (rowFrom n i n (now (table .entry))) (now (table .exit)) (now (inverse .exit))) ⌝ }
+    ensures { λ r. ⌜ ((n : ℕ) → length (now (table .entry)) ≡ 3 ^ n → WordsLaid (rowFrom n i n (now (table .entry)) .found) r end (now (words .entry)) (now (words .exit))) ⌝ }
+    ensures { λ _. ⌜ ((n : ℕ) → length (now (table .entry)) ≡ 3 ^ n → TableReached n (rowFrom n i n (now (table .entry))) (now (table .exit)) (now (inverse .exit))) ⌝ }
 {
     let mut a = table[i];
     let from = full[a as usize];
@@ -52,7 +52,7 @@ pub fn find_row(
     let mut left = (differ | (differ >> 1)) & 0x555;
     let mut start = end;
     while left != 0 {
-        let k = lowest(left);
+        let k = find_line(left);
         let d = gates::controls::control_on(to, k);
         let b = digits::with_digit(a, k, gates::controls::control_on(from, k), d);
         start -= 1;

@@ -1,5 +1,5 @@
-pub mod Bits
-pub mod Stored
-pub mod Turns
-pub mod Laying
-pub mod Shown
+pub mod PlaneBits
+pub mod PlaneStores
+pub mod PlaneTurns
+pub mod UntouchedPlanes
+pub mod ShownPlanes

@@ -1,2 +1,2 @@
 pub mod Tabulating
-pub mod Planes
+pub mod Inner

@@ -3,8 +3,8 @@ ghost use mathlib.Core.Path.{_≡_};
 ghost use lib.ListN.{length};
 ghost use Rattle.tabulating.specs.Tabulating.{tabulatedAs, tabulateAnswer, tabulateRoom};
 
-mod entries;
 mod planes;
+mod shown_entries;
 mod untouched;
 pub mod whole;
 

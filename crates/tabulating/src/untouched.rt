@@ -2,12 +2,12 @@
 ghost use mathlib.Core.Path.{_≡_};
 ghost use Prim.Native.Nat.{ℕ, _+_, _*_, _≤_, _<_};
 ghost use lib.ListN.{length, getD};
-ghost use Rattle.tabulating.specs.Planes.{Shows, joined, Laid};
+ghost use Rattle.tabulating.specs.Inner.Planes.{AllPlanes, Shows, withInput, ShownUpTo};
 
 // Input p joins plane a.
-fn join(planes: &mut [u64], a: usize, p: usize)
-    requires { ⌜ (length (now planes) ≡ 288) × (a < 24) × (p < 729) ⌝ }
-    ensures { λ _. ⌜ now (planes .exit) ≡ joined (now (planes .entry)) a p ⌝ }
+fn add_input(planes: &mut [u64], a: usize, p: usize)
+    requires { ⌜ AllPlanes (now planes) × (a < 24) × (p < 729) ⌝ }
+    ensures { λ _. ⌜ now (planes .exit) ≡ withInput (now (planes .entry)) a p ⌝ }
 {
     let at = 12 * a + p / 64;
     planes[at] = planes[at] | (1 << (p % 64));
@@ -15,22 +15,22 @@ fn join(planes: &mut [u64], a: usize, p: usize)
 
 // Input p joins the planes for what each line holds, and those for none.
 fn lay_input(planes: &mut [u64], p: u16)
-    requires { ⌜ (length (now planes) ≡ 288) × (p < 729) ⌝ }
-    ensures { λ _. ⌜ (Laid (now (planes .entry)) (6 * p) → Laid (now (planes .exit)) (6 * (p + 1))) ⌝ }
+    requires { ⌜ AllPlanes (now planes) × (p < 729) ⌝ }
+    ensures { λ _. ⌜ (ShownUpTo (now (planes .entry)) (6 * p) → ShownUpTo (now (planes .exit)) (6 * (p + 1))) ⌝ }
 {
     let q = gates::quads::quad_of(p);
     let mut line: usize = 0;
     while line < 6 {
         let digit = gates::controls::control_on(q, line) as usize;
-        join(planes, 4 * line + digit, p as usize);
-        join(planes, 4 * line + 3, p as usize);
+        add_input(planes, 4 * line + digit, p as usize);
+        add_input(planes, 4 * line + 3, p as usize);
         line = line + 1;
     }
 }
 
 // So many inputs join, one after the other.
-pub fn lay(planes: &mut [u64], count: u16)
-    requires { ⌜ (length (now planes) ≡ 288) × ((i : ℕ) → i < 288 → getD (now planes) i 0 ≡ 0) × (count ≤ 729) ⌝ }
+pub fn lay_inputs(planes: &mut [u64], count: u16)
+    requires { ⌜ AllPlanes (now planes) × ((i : ℕ) → i < length (now planes) → getD (now planes) i 0 ≡ 0) × (count ≤ 729) ⌝ }
     ensures { λ _. ⌜ Shows count (now (planes .exit)) (λ p. p) ⌝ }
 {
     let mut p: u16 = 0;

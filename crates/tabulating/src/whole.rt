@@ -13,7 +13,7 @@ pub fn write_table(lines: u8, cascade: &[u8], m: usize, table: &mut [u16])
 {
     let mut planes = [0u64; 288];
     let mut new = [0u64; 36];
-    super::untouched::lay(&mut planes, table.len() as u16);
-    super::planes::run(lines, cascade, m, &mut planes, &mut new);
-    super::entries::write(&planes, table);
+    super::untouched::lay_inputs(&mut planes, table.len() as u16);
+    super::planes::apply_gates(lines, cascade, m, &mut planes, &mut new);
+    super::shown_entries::write_entries(&planes, table);
 }

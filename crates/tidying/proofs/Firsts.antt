@@ -21,8 +21,8 @@ use Rattle.rules.specs.Places.{mayChange}
 use Rattle.rules.specs.Rules.{fits, loosened, retuned}
 use Rattle.rules.specs.Tidying.{gate, firstJ, firstI, without, ruled}
 use Rattle.rules.proofs.Rules.{reduction, loosened-gate, retuned-gate}
-use Rattle.rules.proofs.Pairs.{Chosen}
-use Rattle.rules.proofs.Pairs.Chosen.{cancel, merge, reduce, none}
+use Rattle.rules.proofs.FittingPairs.{Chosen}
+use Rattle.rules.proofs.FittingPairs.Chosen.{cancel, merge, reduce, nothing}
 use Rattle.remembering.specs.Buffers.{gap, isGap, Stands, kept, rank}
 use Rattle.remembering.specs.Rows.{Quiet, Clear, Stops, Known, Low}
 use Rattle.remembering.proofs.Gaps.{rank-all, rank-le, rank-mono, rank-rises, rank-lt, gate-kept, Standing, stands-at, rank-before, kept-set, kept-gone, gate-real, gap-passed, gap-unfit}
@@ -139,7 +139,7 @@ module _ (gs : List Gate) (ok : Each Stands gs) (i j : ℕ) (lt : i < length gs)
   left-stands (cancel c) = (stands-gap, stands-gap)
   left-stands (merge c m) = (stands-gap, stands-gate _ (inverse-gate 6 _ second-gate))
   left-stands (reduce c m e) = let r = reduction _ _ e in (stands-gate _ (loosened-gate _ _ r 6 first-gate), stands-gate _ (retuned-gate _ _ r 6 second-gate))
-  left-stands (none n) = clash (fits (gate gs i) (gate gs j)) (w .fit lt) n
+  left-stands (nothing n) = clash (fits (gate gs i) (gate gs j)) (w .fit lt) n
 
   module _ (h : Gate) where
     there : i < length (set gs j h)
@@ -171,4 +171,4 @@ module _ (gs : List Gate) (ok : Each Stands gs) (i j : ℕ) (lt : i < length gs)
       ∙ ap₂ (λ (l : List Gate) (x : ℕ). set l x g) (kept-set gs j h (w .inside lt) real-j (gate-real _ (retuned-gate _ _ r 6 second-gate))) (ranked h)
       ∙ set-comm (kept gs) (rank gs j) (rank gs i) h g (omega (arith, rank-rises gs i j lt (w .gate-i lt) (w .clear lt .order)))
       ∙ rw (first-is, second-is, c, m)
-  left-ruled (none n) = clash (fits (gate gs i) (gate gs j)) (w .fit lt) n
+  left-ruled (nothing n) = clash (fits (gate gs i) (gate gs j)) (w .fit lt) n

@@ -15,9 +15,9 @@ use Rattle.ranges.proofs.Lists.{each-imp}
 use Rattle.gates.specs.declared.Gate.{Gate}
 use Rattle.gates.specs.Gates.{IsGate}
 use Rattle.cascades.specs.Cascades.{records, gatesOf, bytesOf}
-use Rattle.rules.specs.Tidying.{firstJ, firstI, ruled, untidy, step, Tidied, size, tidied}
+use Rattle.rules.specs.Tidying.{firstJ, firstI, ruled, untidy, step, Outcome, gatesAndControls, tidied}
 use Rattle.rules.proofs.Weights.{control-count-le}
-use Rattle.rules.proofs.Steps.{stepped-size, step-stepped}
+use Rattle.rules.proofs.TidySteps.{stepped-gates-and-controls, step-stepped}
 use Rattle.rules.proofs.Endings.{afterSteps, after-none, after-one-more, one-answer, tidied-procedure}
 use Rattle.remembering.specs.Buffers.{gatesIn, isGap, kept, rank, Holds}
 use Rattle.remembering.specs.Rows.{Reached}
@@ -29,8 +29,8 @@ use Rattle.tidying.specs.Searches.{Remembers, TidiedIn, PairAt}
 use Rattle.tidying.proofs.Firsts.{First, first-at}
 
 -- a list of m gates has at most 7 m gates and controls
-pub size-le : (gs : List Gate) → size gs ≤ 7 * length gs
-unfolding size total
+pub size-le : (gs : List Gate) → gatesAndControls gs ≤ 7 * length gs
+unfolding gatesAndControls total
 size-le [] = omega arith
 size-le (g ∷ gs) = omega (arith, size-le gs, control-count-le g)
 
@@ -57,7 +57,7 @@ pub record Going (gs : List Gate) (b far reach marks : List ℕ) (m x k : ℕ) :
   pub memory : Remembers b far reach marks m x
   pub list : kept (gatesIn b m) ≡ afterSteps k gs
   pub used : (q : ℕ) → q < k → untidy (afterSteps q gs) ≡ true
-  pub spent : k + size (afterSteps k gs) ≤ size gs
+  pub spent : k + gatesAndControls (afterSteps k gs) ≤ gatesAndControls gs
 
 pub going-start : (gs : List Gate) (b far reach marks : List ℕ) (m : ℕ) → length gs ≡ m → Each (IsGate 6) gs → Holds b gs → m ≤ 8000 → m + 16 ≤ length far
     → Reached (span (λ r. r + 1) 0 m ++ drop m far) reach m → Marked (gatesIn b m) marks → Going gs b (span (λ r. r + 1) 0 m ++ drop m far) reach marks m 0 0
@@ -95,7 +95,7 @@ module _ (gs : List Gate) (b far reach marks : List ℕ) (m x k : ℕ) (w : Goin
           memory = u;
           list = e ∙ ap (λ (l : List Gate). ruled l (rank (gatesIn b m) i) (rank (gatesIn b m) j)) (w .list) ∙ sym more;
           used = λ q l. ⊎-elim (λ (p : q ≡ k). rw p some) (λ (p : q < k). w .used q p) (here-or-later (omega arith));
-          spent = omega (arith, w .spent, ap size (after-one-more k gs), stepped-size (step-stepped (afterSteps k gs) some));
+          spent = omega (arith, w .spent, ap gatesAndControls (after-one-more k gs), stepped-gates-and-controls (step-stepped (afterSteps k gs) some));
         }
       where
         place : i < length (gatesIn b m)
@@ -129,9 +129,9 @@ module _ (gs : List Gate) (b far reach marks : List ℕ) (m x k : ℕ) (w : Goin
         → t ≡ take (8 * left) c ++ replicate (length c - 8 * left) 0 → TidiedIn s t left k
     going-done s c t left is size len le h all e =
         let done : record { left = kept (gatesIn b m); steps = k } ≡ tidied (gatesOf s) = going-end le ∙ ap tidied is in
-        let list : kept (gatesIn b m) ≡ tidied (gatesOf s) .left = ap (λ (r : Tidied). r .left) done in
+        let list : kept (gatesIn b m) ≡ tidied (gatesOf s) .left = ap (λ (r : Outcome). r .left) done in
         let count : left ≡ length (tidied (gatesOf s) .left) = all ∙ ap length list in
         let bytes : take (8 * left) c ≡ bytesOf (tidied (gatesOf s) .left) =
         ap (λ (y : ℕ). take (8 * y) c) all ∙ holds-bytes c (kept (gatesIn b m)) h ∙ ap bytesOf list in
         let freed : length c - 8 * left ≡ 8 * (records s - length (tidied (gatesOf s) .left)) = omega arith in
-        record { count = count; uses = ap (λ (r : Tidied). r .steps) done; bytes = e ∙ rw (bytes, freed) }
+        record { count = count; uses = ap (λ (r : Outcome). r .steps) done; bytes = e ∙ rw (bytes, freed) }

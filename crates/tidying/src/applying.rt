@@ -4,7 +4,7 @@ ghost use Prim.Native.Nat.{_≤_, _<_};
 ghost use lib.ListN.{set};
 ghost use Rattle.gates.specs.Inner.Words.{gateOf, GateWord};
 ghost use Rattle.rules.specs.Tidying.{ruled};
-ghost use Rattle.rules.specs.Words.{ruleFor};
+ghost use Rattle.rules.specs.Inner.NamedRules.{ruleFor};
 ghost use Rattle.remembering.specs.Buffers.{gatesIn, gap, Stands, kept, rank};
 ghost use Rattle.tidying.specs.Searches.{Remembers, PairAt, leftBy};
 use gates::Gate;
@@ -36,7 +36,7 @@ fn leave_pair(g: u64, h: u64) -> Left
         },
         Rule::Merge => Left {
             first: leave_gap(),
-            second: rules::fitting::invert(second),
+            second: rules::fitting::invert_gate(second),
         },
         Rule::Reduce => rules::fitting::reduce_pair(first, second),
         Rule::Nothing => Left { first, second },

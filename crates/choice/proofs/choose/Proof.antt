@@ -19,12 +19,18 @@ use Rattle.choice.proofs.choose.Tie as tie
 
 -- the first has a price
 module _ (c : tie.After-known-told2) where
-  first-priced : priceAnswer (c .before .before .before .before .before .before .args .lines) (c .before .before .before .before .before .before .args .value) (c .before .before .before .before .before .before .args .first .now) ≡ accepted (c .before .one .given .0 .0 ∷ [])
+  abbrev first-cost : ℕ
+  first-cost = c .before .one .given .0 .0
+
+  first-priced : priceAnswer (c .before .before .before .before .before .before .args .lines) (c .before .before .before .before .before .before .args .value) (c .before .before .before .before .before .before .args .first .now) ≡ accepted (first-cost ∷ [])
   first-priced = sym (c .before .before .before .price .ensures) ∙ ap pricedAs (c .before .one .given .1)
 
 -- so has the second
 module _ (c : tie.After-known-told4) where
-  second-priced : priceAnswer (c .before .before .before .before .before .before .before .before .before .before .args .lines) (c .before .before .before .before .before .before .before .before .before .before .args .value) (c .before .before .before .before .before .before .before .before .before .before .args .second .now) ≡ accepted (c .before .two .given .0 .0 ∷ [])
+  abbrev second-cost : ℕ
+  second-cost = c .before .two .given .0 .0
+
+  second-priced : priceAnswer (c .before .before .before .before .before .before .before .before .before .before .args .lines) (c .before .before .before .before .before .before .before .before .before .before .args .value) (c .before .before .before .before .before .before .before .before .before .before .args .second .now) ≡ accepted (second-cost ∷ [])
   second-priced = sym (c .before .before .before .price2 .ensures) ∙ ap pricedAs (c .before .two .given .1)
 
 -- the test of `second_wins`, on the prices and counts of the two

@@ -2,8 +2,8 @@
 -- its cascade. Assumes nothing.
 use denote.Ref.{now}
 use mathlib.Core.Path.{_≡_, sym, ap, _∙_}
-use mathlib.Core.List.{[]}
-use Prim.Native.Nat.{_^_, _≤_}
+use mathlib.Core.List.{List, []}
+use Prim.Native.Nat.{ℕ, _^_, _≤_}
 use lib.ListN.{length, take}
 use lib.Seq.{length-take-le}
 use native.Mathlib.Omega.{arith}
@@ -16,7 +16,7 @@ use Rattle.tables.specs.Answers.{checkedAs}
 use Rattle.tables.proofs.Accepts.{accepted-permutation}
 use Rattle.synthesis.proofs.Synthesis.{bound-most, synthesized-bound}
 use Rattle.synthesis.proofs.Pairings.{present}
-use Rattle.synthesis.proofs.Answers.{refused-table, refused-room, cascade-fits, accepted-cascade}
+use Rattle.synthesis.proofs.SynthesisAnswers.{refused-table, refused-room, cascade-fits, accepted-cascade}
 use borrow.Author.Needs.{needs}
 use Rattle.synthesis.proofs.synthesize_in.Statement.{statement}
 use Rattle.synthesis.proofs.synthesize_in.Tie as tie
@@ -26,10 +26,14 @@ module _ (c : tie.After-enum-told) where
   abbrev start : tie.Start
   start = c .before .before .before .before .before .before .before .before .before .before .before
 
+  -- the inverse that the check has written
+  abbrev back : List ℕ
+  back = c .before .before .before .before .check-inverting .last .1 .1 .0
+
   good : accepted [] ≡ checkTableAnswer (start .args .lines) (now (start .args .table))
   good = sym (ap checkedAs (c .enum-told .given .1)) ∙ c .before .before .before .before .check-inverting .ensures .0
 
-  inverted : Inverted (3 ^ (start .args .lines)) (now (start .args .table)) (take (3 ^ (start .args .lines)) (c .before .before .before .before .check-inverting .last .1 .1 .0))
+  inverted : Inverted (3 ^ (start .args .lines)) (now (start .args .table)) (take (3 ^ (start .args .lines)) back)
   inverted = c .before .before .before .before .check-inverting .ensures .1 (ap checkedAs (c .enum-told .given .1))
 
   six : start .args .lines ≤ 6
@@ -38,8 +42,8 @@ module _ (c : tie.After-enum-told) where
   few : length (now (start .args .table)) ≤ 729
   few = omega (arith, inverted .perm .size, patterns-most _ six)
 
-  long : length (now (start .args .table)) ≤ length (c .before .before .before .before .check-inverting .last .1 .1 .0)
-  long = omega (arith, few, c .before .before .before .before .check-inverting .kept .1 .1 .0, start .pre .0)
+  long : length (now (start .args .table)) ≤ length back
+  long = omega (arith, few, c .before .before .before .inverse .given, start .pre .0)
 
   wide : length (now (start .args .table)) ≤ length (now (start .args .entries))
   wide = omega (arith, few, start .pre .1)
@@ -59,14 +63,14 @@ returns c = refused-table _ _ _ _ _ (sym (ap checkedAs (c .before .number .given
 enum-told : tie.Need-enum-told
 enum-told c = search needs
 
-room-asked-requires : tie.Need-room-asked-requires
-room-asked-requires c κs = six c
+compute-bound-requires : tie.Need-compute-bound-requires
+compute-bound-requires c κs = six c
 
 same-length-2 : tie.Need-same-length-2
 same-length-2 c = search needs
 
 returns-2 : tie.Need-returns-2
-returns-2 c = refused-room _ _ _ (good (c .before .before)) _ (c .before .room-asked .ensures) (c .if1 .taken)
+returns-2 c = refused-room _ _ _ (good (c .before .before)) _ (c .before .compute-bound .ensures) (c .if1 .taken)
 
 slice-relend-prefix-write-cascade : tie.Need-slice-relend-prefix-write-cascade
 slice-relend-prefix-write-cascade c = long (c .before .before)
@@ -82,16 +86,13 @@ slice-aggregate-write-cascade-2 c = sym (length-take-le _ _ (wide (c .before .be
 
 write-cascade-requires : tie.Need-write-cascade-requires
 write-cascade-requires c κs =
-    let d = c .before .before .before .before .before .before in (
-      rw (inverted d .perm .size) (present _ _ _ (six d) (inverted d)),
-      (
-        length-take-le _ _ (wide d),
-        (
-          omega (arith, synthesized-bound _ _ (six d) (inverted d .perm), bound-most _ (six d), start d .pre .2),
-          cascade-fits _ _ (now (start d .args .room)) (good d) _ (c .before .before .before .before .before .room-asked .ensures) (c .before .before .before .before .if1 .left),
-        ),
-      ),
-    )
+    let d = c .before .before .before .before .before .before in
+    record {
+      present = rw (inverted d .perm .size) (present _ _ _ (six d) (inverted d));
+      as-long = length-take-le _ _ (wide d);
+      words-fit = omega (arith, synthesized-bound _ _ (six d) (inverted d .perm), bound-most _ (six d), start d .pre .2);
+      records-fit = cascade-fits _ _ (now (start d .args .room)) (good d) _ (c .before .before .before .before .before .compute-bound .ensures) (c .before .before .before .before .if1 .left);
+    }
 
 same-length-3 : tie.Need-same-length-3
 same-length-3 c = search needs
@@ -108,7 +109,7 @@ same-length-6 c = search needs
 returns-3 : tie.Need-returns-3
 returns-3 c =
     let w = c .before .before .before .before .before .before .before .before .write-cascade .ensures in
-    accepted-cascade _ _ _ (good (c .before .before .before .before .before .before .before .before .before .before .before .before .before .before .before)) _ (c .before .before .before .before .before .before .before .before .before .before .before .before .before .before .room-asked .ensures) (c .before .before .before .before .before .before .before .before .before .before .before .before .before .if1 .left) _ _ (w .0) (w .1)
+    accepted-cascade _ _ _ (good (c .before .before .before .before .before .before .before .before .before .before .before .before .before .before .before)) _ (c .before .before .before .before .before .before .before .before .before .before .before .before .before .before .compute-bound .ensures) (c .before .before .before .before .before .before .before .before .before .before .before .before .before .if1 .left) _ _ (w .0) (w .1)
 
 pub synthesize-in-spec : {M : Type 1} → statement M
 synthesize-in-spec =
@@ -119,7 +120,7 @@ synthesize-in-spec =
     same-length
     returns
     enum-told
-    room-asked-requires
+    compute-bound-requires
     same-length-2
     returns-2
     slice-relend-prefix-write-cascade

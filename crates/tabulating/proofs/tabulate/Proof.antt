@@ -3,7 +3,7 @@ use mathlib.Core.Path.{_≡_, sym, ap, _∙_}
 use mathlib.Core.List.{List, [], _∷_, _++_}
 use Prim.Native.Nat.{ℕ, _^_}
 use lib.ListN.{drop}
-use lib.Seq.{length-take-le, length-front}
+use lib.Seq.{length-take-le}
 use borrow.Author.Tests.{lt-ltb, le-ltb}
 use Rattle.ranges.proofs.Spans.{length-span}
 use Rattle.card.specs.Card.{Answer.accepted, laid}
@@ -20,7 +20,10 @@ use Rattle.tabulating.proofs.tabulate.Tie as tie
 
 -- what checking has found
 module _ (c : tie.After-known-told2) where
-  whole : Whole (c .before .before .before .before .before .before .args .lines) (c .before .before .before .before .before .before .args .cascade .now) (c .before .m .given .0 .0)
+  abbrev gates : ℕ
+  gates = c .before .m .given .0 .0
+
+  whole : Whole (c .before .before .before .before .before .before .args .lines) (c .before .before .before .before .before .before .args .cascade .now) gates
   whole =
       let e = sym (c .before .before .before .check-cascade .ensures) ∙ ap countedAs (c .before .m .given .1) in
       rw (check-count _ _ _ e) (check-whole _ _ _ e)
@@ -69,9 +72,7 @@ returns-2 c =
     refused-both _ _ _ _ _ (check-refused _ _ _ _ _ e)
 
 same-length : tie.Need-same-length
-same-length c =
-    let d = c .before .before .before .before in
-    length-front (d .before .before .before .before .before .before .before .before .args .room .now) (c .before .before .write-table .last .1 .1 .1 .0) (d .before .power .result) (c .before .before .write-table .kept .1 .1 .1 .0)
+same-length c = search needs
 
 returns-3 : tie.Need-returns-3
 unfolding tabulateAnswer tabulateRoom

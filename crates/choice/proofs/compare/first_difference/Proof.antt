@@ -1,22 +1,17 @@
 -- `choice::compare::first_difference` meets its contract: a table of so many lines fits its room. Assumes nothing.
-use mathlib.Core.Path.{_≡_, sym, _∙_}
-use mathlib.Core.Bool.{true}
-use Prim.Native.Nat.{ℕ, _^_, _≤_}
-use native.Mathlib.Nat.{pow-le-pow-right}
+use mathlib.Core.Path.{sym, _∙_}
+use Prim.Native.Nat.{_≤_}
 use lib.Seq.{length-take-le}
 use native.Mathlib.Omega.{arith}
-use Rattle.card.specs.Card.{linesOk}
+use Rattle.digits.proofs.Sizes.{patterns-most}
 use Rattle.card.proofs.Cards.{lines-are}
 use borrow.Author.Needs.{needs}
 use Rattle.choice.proofs.compare.first_difference.Statement.{statement}
 use Rattle.choice.proofs.compare.first_difference.Tie as tie
 
-most : (n size : ℕ) → linesOk n ≡ true → size ≡ 3 ^ n → size ≤ 729
-most n size six e = rw e (pow-le-pow-right {n = 3} (omega arith) {i = n} {j = 6} (lines-are n six .1))
-
 module _ (c : tie.After-power) where
   fits : c .power .result ≤ 729
-  fits = most _ _ (c .before .before .before .pre .0 .lines) (c .power .ensures)
+  fits = omega (arith, c .power .ensures, patterns-most _ (lines-are _ (c .before .before .before .pre .0 .lines) .1))
 
 power-requires : tie.Need-power-requires
 power-requires c κs = lines-are _ (c .before .before .pre .0 .lines) .1
@@ -41,7 +36,7 @@ difference-in-requires c κs =
     let d = c .before .before in
     let start = d .before .before .before in
     let e = length-take-le _ _ (fits d) ∙ d .power .ensures in
-    (start .pre .0, (start .pre .1, (e, e)))
+    record { first-whole = start .pre .0; second-whole = start .pre .1; first-room = e; second-room = e }
 
 returns : tie.Need-returns
 returns c = search needs

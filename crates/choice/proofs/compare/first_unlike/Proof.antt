@@ -10,7 +10,7 @@ use borrow.Author.Tests.{eq-eqb, ne-eqb}
 use borrow.Author.Needs.{needs}
 use Rattle.ranges.specs.Ranges.{first}
 use Rattle.ranges.proofs.Searches.{first-more, first-hit, first-ends}
-use Rattle.choice.specs.Choice.{firstUnlike}
+use Rattle.choice.specs.Inner.Comparing.{firstUnlike}
 use Rattle.choice.proofs.compare.first_unlike.Statement.{statement}
 use Rattle.choice.proofs.compare.first_unlike.Tie as tie
 

@@ -1,7 +1,7 @@
 -- `remembering::views::against` meets its contract: the target's byte is added to those of the controls. Assumes nothing.
 use Prim.Native.Nat.{_*_, _≤_}
 use native.Mathlib.Omega.{arith}
-use Rattle.rules.proofs.Words.{operator-lt}
+use Rattle.rules.proofs.PairWords.{operator-lt}
 use Rattle.remembering.proofs.Stretches.{against-word, part-most}
 use Rattle.remembering.proofs.views.against.Statement.{statement}
 use Rattle.remembering.proofs.views.against.Tie as tie

@@ -1,7 +1,7 @@
 -- `remembering::views::view` meets its contract: the target's byte is added to those of the controls. Assumes nothing.
 use Prim.Native.Nat.{_*_, _≤_}
 use native.Mathlib.Omega.{arith}
-use Rattle.rules.proofs.Words.{operator-lt}
+use Rattle.rules.proofs.PairWords.{operator-lt}
 use Rattle.remembering.proofs.Stretches.{view-word, part-most}
 use Rattle.remembering.proofs.views.view.Statement.{statement}
 use Rattle.remembering.proofs.views.view.Tie as tie

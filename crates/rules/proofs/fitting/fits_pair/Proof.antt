@@ -3,7 +3,7 @@ use mathlib.Core.Path.{_≡_, sym, ap, _∙_}
 use Rattle.gates.specs.Inner.Words.{gateOf}
 use Rattle.rules.specs.declared.fitting.Rule.{Rule}
 use Rattle.rules.specs.Rules.{fits}
-use Rattle.rules.proofs.Pairs.{isRule, rule-fits}
+use Rattle.rules.proofs.FittingPairs.{isRule, rule-fits}
 use borrow.Author.Needs.{needs}
 use Rattle.rules.proofs.fitting.fits_pair.Statement.{statement}
 use Rattle.rules.proofs.fitting.fits_pair.Tie as tie

@@ -8,8 +8,8 @@ use Rattle.gates.specs.Gates.{inverseOp}
 use Rattle.gates.specs.Inner.Words.{gateOf}
 use Rattle.gates.proofs.Bytes.{operator-word, target-word}
 use Rattle.rules.specs.Rules.{sameLines, cancels, merges, reduces}
-use Rattle.rules.specs.Words.{ruleFor}
-use Rattle.rules.proofs.Pairs.{types-off}
+use Rattle.rules.specs.Inner.NamedRules.{ruleFor}
+use Rattle.rules.proofs.FittingPairs.{types-off}
 use borrow.Author.Needs.{needs}
 use Rattle.rules.proofs.fitting.may_fit.Statement.{statement}
 use Rattle.rules.proofs.fitting.may_fit.Tie as tie

@@ -1,7 +1,7 @@
 -- `rules::fitting::rule_by` meets its contract: one test after the other. Assumes nothing.
 use mathlib.Core.Path.{sym, _∙_}
 use borrow.Author.Tests.{eq-eqb, ne-eqb, not-true, not-false}
-use Rattle.rules.specs.Words.{ruleBy}
+use Rattle.rules.specs.Inner.NamedRules.{ruleBy}
 use borrow.Author.Needs.{needs}
 use Rattle.rules.proofs.fitting.rule_by.Statement.{statement}
 use Rattle.rules.proofs.fitting.rule_by.Tie as tie

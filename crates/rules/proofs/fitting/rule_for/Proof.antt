@@ -1,13 +1,12 @@
 -- `rules::fitting::rule_for` meets its contract: equal marks are equal sets of lines, and the other marks are counted. Assumes nothing.
 use mathlib.Core.Path.{_≡_, sym, _∙_}
-use mathlib.Core.Bool.{true}
 use lib.Dec.{eqb}
 use borrow.Author.Tests.{eq-eqb, ne-eqb, not-true, not-false}
 use Rattle.gates.specs.Inner.Words.{gateOf}
 use Rattle.gates.proofs.Bytes.{byte-high}
 use Rattle.rules.specs.Rules.{sameLines}
-use Rattle.rules.proofs.Pairs.{rule-lines}
-use Rattle.rules.proofs.Words.{marks-same, rule-counted}
+use Rattle.rules.proofs.FittingPairs.{rule-lines}
+use Rattle.rules.proofs.PairWords.{marks-same, rule-counted}
 use borrow.Author.Needs.{needs}
 use Rattle.rules.proofs.fitting.rule_for.Statement.{statement}
 use Rattle.rules.proofs.fitting.rule_for.Tie as tie

@@ -7,16 +7,16 @@ use lib.Dec.{eqb}
 use borrow.Author.Tests.{eqb-true}
 use Rattle.ranges.specs.Ranges.{every}
 use Rattle.ranges.proofs.Tests.{every-below}
-use Rattle.gates.proofs.Bytes.{byte-one, operator-word, target-word}
+use Rattle.gates.proofs.Bytes.{operator-word, target-word}
 use Rattle.rules.specs.Places.{isC, upsets, blocks}
-use Rattle.rules.proofs.Words.{operator-lt}
+use Rattle.rules.proofs.PairWords.{operator-lt}
 use Rattle.rules.proofs.passing.blocks_gate.Statement.{statement}
 use Rattle.rules.proofs.passing.blocks_gate.Tie as tie
 
 bitTest : ℕ → ℕ → Bool
-bitTest o v = eqb (3561328 / 2 ^ (4 * o + v) % 2) (cond (not (eqb v 3) && upsets o v) 1 0)
+bitTest o v = eqb (0x36_5770 / 2 ^ (4 * o + v) % 2) (cond (not (eqb v 3) && upsets o v) 1 0)
 
-bit-is : (o v : ℕ) → o < 6 → v < 4 → 3561328 / 2 ^ (4 * o + v) % 2 ≡ cond (not (eqb v 3) && upsets o v) 1 0
+bit-is : (o v : ℕ) → o < 6 → v < 4 → 0x36_5770 / 2 ^ (4 * o + v) % 2 ≡ cond (not (eqb v 3) && upsets o v) 1 0
 unfolding bitTest every upsets isC
 bit-is o v lo lv = eqb-true _ _ (every-below (bitTest o) 4 (every-below (λ x. every (bitTest x) 0 4) 6 refl o lo) v lv)
 

@@ -6,7 +6,7 @@ use lib.Dec.{eqb}
 use lib.Bits.{bitAnd}
 use Rattle.gates.proofs.Bytes.{operator-word, target-word}
 use Rattle.rules.specs.Places.{sameType, clashes}
-use Rattle.rules.proofs.Words.{operator-lt}
+use Rattle.rules.proofs.PairWords.{operator-lt}
 use borrow.Author.Needs.{needs}
 use Rattle.rules.proofs.passing.targets_clash.Statement.{statement}
 use Rattle.rules.proofs.passing.targets_clash.Tie as tie

@@ -12,9 +12,9 @@ use Rattle.rules.proofs.passing.types_apart.Statement.{statement}
 use Rattle.rules.proofs.passing.types_apart.Tie as tie
 
 bitTest : ℕ → ℕ → Bool
-bitTest a b = eqb (34287650421054 / 2 ^ (8 * a + b) % 2) (cond (not (sameType a b)) 1 0)
+bitTest a b = eqb (0x1f2f_3739_393e / 2 ^ (8 * a + b) % 2) (cond (not (sameType a b)) 1 0)
 
-bit-is : (a b : ℕ) → a < 6 → b < 6 → 34287650421054 / 2 ^ (8 * a + b) % 2 ≡ cond (not (sameType a b)) 1 0
+bit-is : (a b : ℕ) → a < 6 → b < 6 → 0x1f2f_3739_393e / 2 ^ (8 * a + b) % 2 ≡ cond (not (sameType a b)) 1 0
 unfolding bitTest every sameType isC
 bit-is a b la lb = eqb-true _ _ (every-below (bitTest a) 6 (every-below (λ x. every (bitTest x) 0 6) 6 refl a la) b lb)
 

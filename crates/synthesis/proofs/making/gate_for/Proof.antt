@@ -1,5 +1,6 @@
 -- `synthesis::making::gate_for` meets its contract: the operator exchanges the two digits, and the target has no control. Assumes nothing.
 use mathlib.Core.Path.{ap, _∙_}
+use native.Mathlib.Omega.{arith}
 use Rattle.digits.specs.Digits.{digit}
 use Rattle.synthesis.specs.Synthesis.{gateFor}
 use Rattle.synthesis.proofs.Controls.{full-line, controls-made}
@@ -8,7 +9,7 @@ use Rattle.synthesis.proofs.making.gate_for.Statement.{statement}
 use Rattle.synthesis.proofs.making.gate_for.Tie as tie
 
 control-on-requires : tie.Need-control-on-requires
-control-on-requires c κs = search needs
+control-on-requires c κs = omega (arith, c .pre .line)
 
 exchanger-of-requires : tie.Need-exchanger-of-requires
 exchanger-of-requires c κs = search needs

@@ -6,8 +6,8 @@ use native.Mathlib.Omega.{arith}
 use Rattle.ranges.proofs.Changes.{filled-at}
 use Rattle.ranges.proofs.Fills.{filled, Filling, filling-start, filling-length, filling-next}
 use Rattle.digits.proofs.Sizes.{patterns-most}
-use Rattle.synthesis.specs.Steps.{fullControls}
-use Rattle.synthesis.proofs.Controls.{none-fits, full-lt, full-made}
+use Rattle.synthesis.specs.Inner.TableSteps.{fullControls}
+use Rattle.synthesis.proofs.Controls.{shift-fits, full-lt, full-made}
 use borrow.Author.Needs.{needs}
 use Rattle.synthesis.proofs.making.name_patterns.Statement.{statement}
 use Rattle.synthesis.proofs.making.name_patterns.Tie as tie
@@ -30,7 +30,7 @@ module _ (c : tie.In-loop Inv-loop μ-loop) where
   few = omega (arith, below, patterns-most _ (start .pre .0))
 
 module _ (c : tie.After-quad-of Inv-loop μ-loop) where
-  made : c .quad-of .result + (4096 - 1 * 2 ^ (2 * (start (c .before) .args .n)) % 65536) ≡ fullControls (start (c .before) .args .n) (c .before .before .loop .p)
+  made : c .quad-of .result + (0x1000 - 1 * 2 ^ (2 * (start (c .before) .args .n)) % 0x1_0000) ≡ fullControls (start (c .before) .args .n) (c .before .before .loop .p)
   made = full-made _ _ _ (start (c .before) .pre .0) (below (c .before)) (c .quad-of .ensures)
 
 power-requires : tie.Need-power-requires Inv-loop μ-loop
@@ -49,7 +49,7 @@ shl-none : tie.Need-shl-none Inv-loop μ-loop
 shl-none c = search needs
 
 sub-none : tie.Need-sub-none Inv-loop μ-loop
-sub-none c = none-fits _ (c .before .before .pre .0)
+sub-none c = shift-fits _ (c .before .before .pre .0)
 
 loop-holds : tie.Need-loop-holds Inv-loop μ-loop
 loop-holds c = filling-start _ _

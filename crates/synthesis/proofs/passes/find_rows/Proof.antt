@@ -7,17 +7,17 @@ use Prim.Native.Nat.{ℕ, _-_, _^_, _≤_, _<_}
 use lib.ListN.{length}
 use native.Mathlib.Omega.{arith}
 use Rattle.digits.proofs.Sizes.{patterns-most}
-use Rattle.synthesis.specs.Steps.{rowsFrom, Reached, Lays}
+use Rattle.synthesis.specs.Inner.TableSteps.{rowsFrom, TableReached, WordsLaid}
 use Rattle.synthesis.proofs.Pairings.{same-sizes}
 use Rattle.synthesis.proofs.Moves.{still, rows-none, rows-found, rows-room, rows-more, rows-all}
-use Rattle.synthesis.proofs.Layings.{lays-none, lays-more}
+use Rattle.synthesis.proofs.Layings.{laid-none, laid-more}
 use Rattle.synthesis.proofs.passes.find_rows.Statement.{statement}
 use Rattle.synthesis.proofs.passes.find_rows.Tie as tie
 
 record Going (n : ℕ) (t₀ ws₀ : List ℕ) (t v ws : List ℕ) (e i : ℕ) : Type 0 where
   within : i ≤ 3 ^ n
-  at : Reached n (rowsFrom n i t₀) t v
-  laid : Lays (rowsFrom n i t₀ .found) e (length ws₀) ws₀ ws
+  at : TableReached n (rowsFrom n i t₀) t v
+  laid : WordsLaid (rowsFrom n i t₀ .found) e (length ws₀) ws₀ ws
 
 abbrev Inv-loop : tie.InvT-loop
 Inv-loop n full table₀ inverse₀ words₀ start₀ i₀ table inverse words start i = Going n table₀ words₀ table inverse words start i
@@ -34,10 +34,10 @@ module _ (c : tie.In-loop Inv-loop μ-loop) where
   row = omega (arith, c .loop-test .taken, c .before .loop .inv .at .present .size)
 
 name-patterns-requires : tie.Need-name-patterns-requires Inv-loop μ-loop
-name-patterns-requires c κs = let w = c .before .before .before .before .before .pre in (w .0 .lines, w .1 .0)
+name-patterns-requires c κs = let w = c .before .before .before .before .before .pre in (w .0 .lines, w .1)
 
 loop-holds : tie.Need-loop-holds Inv-loop μ-loop
-loop-holds c = let none = rows-none _ _ in record { within = omega arith; at = still _ _ _ _ (c .before .before .before .before .before .before .before .before .pre .0) none; laid = rw none (lays-none _ _) }
+loop-holds c = let none = rows-none _ _ in record { within = omega arith; at = still _ _ _ _ (c .before .before .before .before .before .before .before .before .pre .0) none; laid = rw none (laid-none _ _) }
 
 find-row-requires : tie.Need-find-row-requires Inv-loop μ-loop
 find-row-requires c κs =
@@ -49,7 +49,7 @@ find-row-requires c κs =
         names = t .before .before .before .before .name-patterns .ensures;
         present = g .at .present;
         row = row t;
-        room = rows-room _ _ _ _ _ (g .at) _ _ (row t) (s .pre .1 .1) (g .laid .count);
+        room = rows-room _ _ _ _ _ (g .at) _ _ (row t) (s .pre .2) (g .laid .count);
       },
       omega (arith, g .laid .count, g .laid .size),
     )
@@ -70,11 +70,11 @@ loop-again c =
     record {
       within = omega (arith, row t);
       at = rows-more _ _ _ _ _ (g .at) _ _ (w .1 n size);
-      laid = rw (rows-found _ _ _ _ _ (g .at)) (lays-more _ _ _ _ _ _ _ _ (g .laid) (w .0 n size));
+      laid = rw (rows-found _ _ _ _ _ (g .at)) (laid-more _ _ _ _ _ _ _ _ (g .laid) (w .0 n size));
     }
 
 same-length : tie.Need-same-length Inv-loop μ-loop
-same-length c = c .before .before .before .before .name-patterns .kept .1 .0
+same-length c = c .before .before .before .full .given
 
 same-length-2 : tie.Need-same-length-2 Inv-loop μ-loop
 same-length-2 c = same-sizes _ _ _ _ _ (c .before .before .before .before .before .before .before .before .before .before .pre .0) (c .before .loop .inv .at .present) .0

@@ -2,10 +2,12 @@
 -- Assumes nothing.
 use denote.Ref.{now}
 use mathlib.Core.Path.{_∙_}
+use mathlib.Core.List.{List}
+use Prim.Native.Nat.{ℕ}
 use native.Mathlib.Omega.{arith}
 use lib.ListN.{length}
 use Rattle.synthesis.specs.Synthesis.{synthesized}
-use Rattle.synthesis.specs.Steps.{Lays}
+use Rattle.synthesis.specs.Inner.TableSteps.{WordsLaid}
 use Rattle.synthesis.proofs.Layings.{part-length, cascade-laid}
 use borrow.Author.Needs.{needs}
 use Rattle.synthesis.proofs.passes.write_cascade.Statement.{statement}
@@ -16,29 +18,32 @@ module _ (c : tie.After-find-gates) where
   abbrev start : tie.Start
   start = c .before .before .before .before .before .before .before .before .before .before .before .before .before
 
-  laid : Lays (synthesized (start .args .n) (now (start .args .given))) (c .find-gates .result) (length (now (start .args .words))) (now (start .args .words)) (c .find-gates .last .1 .1 .1 .0)
-  laid = rw (c .before .before .before .before .before .before .copy .ensures) at (c .find-gates .ensures)
+  abbrev found : List ℕ
+  found = c .find-gates .last .1 .1 .1 .0
 
-copy-requires : tie.Need-copy-requires
-copy-requires c κs = search needs
+  laid : WordsLaid (synthesized (start .args .n) (now (start .args .given))) (c .find-gates .result) (length (now (start .args .words))) (now (start .args .words)) found
+  laid = rw (c .before .before .before .before .before .before .copy-table .ensures) at (c .find-gates .ensures)
+
+copy-table-requires : tie.Need-copy-table-requires
+copy-table-requires c κs = search needs
 
 find-gates-requires : tie.Need-find-gates-requires
-find-gates-requires c κs = let w = c .before .before .before .before .before .before .before .before .before .before .before .before .pre in (rw (c .before .before .before .before .before .copy .ensures) (w .0), rw (c .before .before .before .before .before .copy .ensures) (w .1 .1 .0))
+find-gates-requires c κs = let w = c .before .before .before .before .before .before .before .before .before .before .before .before .pre in (rw (c .before .before .before .before .before .copy-table .ensures) (w .present), rw (c .before .before .before .before .before .copy-table .ensures) (w .words-fit))
 
-mul-write-gates : tie.Need-mul-write-gates
-mul-write-gates c = search needs
+mul-write-words : tie.Need-mul-write-words
+mul-write-words c = search needs
 
-sub-write-gates : tie.Need-sub-write-gates
-sub-write-gates c = search needs
+sub-write-words : tie.Need-sub-write-words
+sub-write-words c = search needs
 
-part-write-gates-start : tie.Need-part-write-gates-start
-part-write-gates-start c = search needs
+part-write-words-start : tie.Need-part-write-words-start
+part-write-words-start c = search needs
 
-part-write-gates-end : tie.Need-part-write-gates-end
-part-write-gates-end c = search needs
+part-write-words-end : tie.Need-part-write-words-end
+part-write-words-end c = search needs
 
-write-gates-requires : tie.Need-write-gates-requires
-write-gates-requires c κs = let d = c .before .before .before .before .before .before .before .before .before in omega (arith, part-length _ _ _ _ (laid d), start d .pre .1 .1 .1)
+write-words-requires : tie.Need-write-words-requires
+write-words-requires c κs = let d = c .before .before .before .before .before .before .before .before .before in omega (arith, part-length _ _ _ _ (laid d), start d .pre .records-fit)
 
 sub-result : tie.Need-sub-result
 sub-result c = search needs
@@ -58,19 +63,19 @@ same-length-4 c = search needs
 returns : tie.Need-returns
 returns c =
     let d = c .before .before .before .before .before .before .before .before .before .before .before .before in
-    (omega (arith, laid d .count, laid d .size), c .before .before .write-gates .ensures ∙ cascade-laid _ _ _ _ _ (laid d) (start d .pre .1 .1 .1))
+    (omega (arith, laid d .count, laid d .size), c .before .before .write-words .ensures ∙ cascade-laid _ _ _ _ _ (laid d) (start d .pre .records-fit))
 
 pub write-cascade-spec : {M : Type 1} → statement M
 write-cascade-spec =
     tie.close
     (tie.spec
-    copy-requires
+    copy-table-requires
     find-gates-requires
-    mul-write-gates
-    sub-write-gates
-    part-write-gates-start
-    part-write-gates-end
-    write-gates-requires
+    mul-write-words
+    sub-write-words
+    part-write-words-start
+    part-write-words-end
+    write-words-requires
     sub-result
     same-length
     same-length-2

@@ -14,7 +14,7 @@ module _ (c : tie.After-slice-known2) where
   start = c .before .before
 
   stand : (getD (now (start .args .inverse)) (start .args .a) 0 < length (now (start .args .table))) × (getD (now (start .args .inverse)) (start .args .b) 0 < length (now (start .args .table)))
-  stand = rows _ _ (start .pre .0) _ _ (start .pre .1 .0) (start .pre .1 .1)
+  stand = rows _ _ (start .pre .0) _ _ (start .pre .1) (start .pre .2)
 
 mul-x : tie.Need-mul-x
 mul-x c = search needs
@@ -67,7 +67,7 @@ same-length-2 c = search needs
 returns : tie.Need-returns
 returns c =
     let s = start c in
-    let e = table-stores _ _ (s .pre .0) _ _ (s .pre .1 .0) (s .pre .1 .1) in (e, rw e (exchange-paired _ _ (s .pre .0) _ _ (s .pre .1 .0) (s .pre .1 .1)))
+    let e = table-stores _ _ (s .pre .0) _ _ (s .pre .1) (s .pre .2) in (e, rw e (exchange-paired _ _ (s .pre .0) _ _ (s .pre .1) (s .pre .2)))
 
 pub exchange-spec : {M : Type 1} → statement M
 exchange-spec =

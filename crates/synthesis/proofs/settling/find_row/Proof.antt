@@ -10,25 +10,25 @@ use Rattle.digits.specs.Digits.{digit}
 use Rattle.digits.proofs.Digits.{digit-lt, put-lt}
 use Rattle.digits.proofs.Sizes.{three-pos, patterns-most}
 use Rattle.gates.specs.Records.{recordOf}
-use Rattle.synthesis.specs.Steps.{fullControls, Row}
+use Rattle.synthesis.specs.Inner.TableSteps.{fullControls, RowToSettle}
 use Rattle.synthesis.proofs.Controls.{full-lt, full-line}
-use Rattle.synthesis.proofs.Lines.{differing-lt}
+use Rattle.synthesis.proofs.DifferingLines.{differing-lt}
 use Rattle.synthesis.proofs.Pairings.{present-permutation, same-sizes}
-use Rattle.synthesis.proofs.Rows.{Going, going-start, going-end, entry-below, line, digit-came, some-room, going-turn, on-lines}
+use Rattle.synthesis.proofs.SettlingRows.{Settling, settling-start, settling-end, entry-below, line, digit-came, some-room, settling-turn, on-lines}
 use borrow.Author.Needs.{needs}
 use Rattle.synthesis.proofs.settling.find_row.Statement.{statement}
 use Rattle.synthesis.proofs.settling.find_row.Tie as tie
 
 abbrev Inv-loop : tie.InvT-loop
 Inv-loop i full table₀ inverse₀ words₀ end a₀ from to differ left₀ start₀ table inverse words a left start =
-    (n : ℕ) → length table₀ ≡ 3 ^ n → Going n i from table₀ words₀ end table inverse words a left start
+    (n : ℕ) → length table₀ ≡ 3 ^ n → Settling n i from table₀ words₀ end table inverse words a left start
 
 abbrev μ-loop : tie.MeasureT-loop
 μ-loop i full table₀ inverse₀ words₀ end a₀ from to differ left₀ start₀ table inverse words a left start = left
 
 -- the row as it comes
 module _ (s : tie.Start Inv-loop μ-loop) where
-  abbrev row : Row (s .args .i) (now (s .args .full)) (now (s .args .table)) (now (s .args .inverse)) (s .args .end)
+  abbrev row : RowToSettle (s .args .i) (now (s .args .full)) (now (s .args .table)) (now (s .args .inverse)) (s .args .end)
   row = s .pre .0
 
   abbrev n : ℕ
@@ -48,7 +48,7 @@ module _ (c : tie.At-loop Inv-loop μ-loop) where
   abbrev from : ℕ
   from = getD (now (start .args .full)) (getD (now (start .args .table)) (start .args .i) 0) 0
 
-  going : Going (n start) (start .args .i) from (now (start .args .table)) (now (start .args .words)) (start .args .end) (c .loop .table) (c .loop .inverse) (c .loop .words) (c .loop .a) (c .loop .left) (c .loop .start)
+  going : Settling (n start) (start .args .i) from (now (start .args .table)) (now (start .args .words)) (start .args .end) (c .loop .table) (c .loop .inverse) (c .loop .words) (c .loop .a) (c .loop .left) (c .loop .start)
   going = c .loop .inv (n start) (row start .present .size)
 
   low : c .loop .left < 4 ^ 6
@@ -64,25 +64,25 @@ module _ (c : tie.At-loop Inv-loop μ-loop) where
   named = row start .names .each (c .loop .a) present-lt
 
 -- the line k of the next gate
-module _ (c : tie.After-lowest Inv-loop μ-loop) where
+module _ (c : tie.After-find-line Inv-loop μ-loop) where
   abbrev loop : tie.At-loop Inv-loop μ-loop
   loop = c .before .before
 
   abbrev k : ℕ
-  k = c .lowest .result
+  k = c .find-line .result
 
   on : k < n (start loop)
-  on = line _ _ _ _ _ _ _ _ _ _ _ _ (going loop) k (c .lowest .ensures) (row (start loop) .row)
+  on = line _ _ _ _ _ _ _ _ _ _ _ _ (going loop) k (c .find-line .ensures) (row (start loop) .row)
 
   some : 1 ≤ loop .loop .start
-  some = some-room _ _ _ _ _ _ _ _ _ _ _ _ (going loop) k (c .lowest .ensures) (row (start loop) .row) (row (start loop) .room)
+  some = some-room _ _ _ _ _ _ _ _ _ _ _ _ (going loop) k (c .find-line .ensures) (row (start loop) .row) (row (start loop) .room)
 
   within : loop .loop .start ≤ length (loop .loop .words)
   within = omega (arith, going loop .laid .count, going loop .laid .size, start loop .pre .1)
 
 -- x is the digit of the entry, d that of the row
 module _ (c : tie.After-control-on2 Inv-loop μ-loop) where
-  abbrev lowest : tie.After-lowest Inv-loop μ-loop
+  abbrev lowest : tie.After-find-line Inv-loop μ-loop
   lowest = c .before .before
 
   d-is : c .before .control-on .result ≡ digit 3 (k lowest) (start (loop lowest) .args .i)
@@ -97,7 +97,7 @@ module _ (c : tie.After-control-on2 Inv-loop μ-loop) where
   x-is : c .control-on2 .result ≡ digit 3 (k lowest) (loop lowest .loop .a)
   x-is =
       c .control-on2 .ensures
-      ∙ digit-came _ _ _ _ _ _ _ _ _ _ _ _ (going (loop lowest)) (k lowest) (lowest .lowest .ensures) (row (start (loop lowest)) .row)
+      ∙ digit-came _ _ _ _ _ _ _ _ _ _ _ _ (going (loop lowest)) (k lowest) (lowest .find-line .ensures) (row (start (loop lowest)) .row)
 
 mul-a : tie.Need-mul-a Inv-loop μ-loop
 mul-a c = search needs
@@ -124,20 +124,20 @@ loop-holds : tie.Need-loop-holds Inv-loop μ-loop
 loop-holds c =
     let s = c .before .before .before .before .before .before .before in
     on-lines _ (n s) _ (row s .present .size)
-    (going-start (n s) (s .args .i) _ _ (now (s .args .table)) (now (s .args .inverse)) (now (s .args .words)) (s .args .end) (row s .present)
+    (settling-start (n s) (s .args .i) _ _ (now (s .args .table)) (now (s .args .inverse)) (now (s .args .words)) (s .args .end) (row s .present)
     (row s .names .each _ (entry s)) (row s .names .each _ (row s .row)))
 
-lowest-requires : tie.Need-lowest-requires Inv-loop μ-loop
-lowest-requires c κs = (omega (arith, c .loop-test .taken), low (c .before))
+find-line-requires : tie.Need-find-line-requires Inv-loop μ-loop
+find-line-requires c κs = (omega (arith, c .loop-test .taken), low (c .before))
 
 control-on-requires : tie.Need-control-on-requires Inv-loop μ-loop
-control-on-requires c κs = omega (arith, c .lowest .ensures .line)
+control-on-requires c κs = omega (arith, c .find-line .ensures .line)
 
 control-on-requires-2 : tie.Need-control-on-requires-2 Inv-loop μ-loop
-control-on-requires-2 c κs = omega (arith, c .before .lowest .ensures .line)
+control-on-requires-2 c κs = omega (arith, c .before .find-line .ensures .line)
 
 with-digit-requires : tie.Need-with-digit-requires Inv-loop μ-loop
-with-digit-requires c κs = (omega (arith, lowest c .lowest .ensures .line), x-is c, few (loop (lowest c)), d-lt c)
+with-digit-requires c κs = (omega (arith, lowest c .find-line .ensures .line), x-is c, few (loop (lowest c)), d-lt c)
 
 sub-start : tie.Need-sub-start Inv-loop μ-loop
 sub-start c = some (lowest (c .before))
@@ -156,12 +156,13 @@ gate-for-requires c κs =
     let d = c .before .before in
     let l = loop (lowest d) in
     let s = start l in
-    let own = full-line (n s) (l .loop .a) (row s .present .lines) (k (lowest d)) (on (lowest d)) in (
-      lowest d .lowest .ensures .line,
-      omega (arith, named l, full-lt (n s) (l .loop .a)),
-      omega (arith, ap (digit 4 (k (lowest d))) (named l), own, digit-lt 3 (k (lowest d)) (l .loop .a) three-pos),
-      d-lt d,
-    )
+    let own = full-line (n s) (l .loop .a) (row s .present .lines) (k (lowest d)) (on (lowest d)) in
+    record {
+      line = lowest d .find-line .ensures .line;
+      packed = omega (arith, named l, full-lt (n s) (l .loop .a));
+      from-digit = omega (arith, ap (digit 4 (k (lowest d))) (named l), own, digit-lt 3 (k (lowest d)) (l .loop .a) three-pos);
+      to-digit = d-lt d;
+    }
 
 word-of-requires : tie.Need-word-of-requires Inv-loop μ-loop
 word-of-requires c κs = search needs
@@ -178,10 +179,8 @@ exchange-requires c κs =
     let l = loop (lowest d) in
     let size = going l .at .present .size in (
       going l .at .present .pair,
-      (
-        omega (arith, size, present-lt l),
-        omega (arith, size, c .before .before .before .before .before .with-digit .ensures, put-lt 3 (n (start l)) (k (lowest d)) (l .loop .a) (c .before .before .before .before .before .before .before .control-on .result) (present-lt l) (on (lowest d)) (d-lt d)),
-      ),
+      omega (arith, size, present-lt l),
+      omega (arith, size, c .before .before .before .before .before .with-digit .ensures, put-lt 3 (n (start l)) (k (lowest d)) (l .loop .a) (c .before .before .before .before .before .before .before .control-on .result) (present-lt l) (on (lowest d)) (d-lt d)),
     )
 
 sub-left : tie.Need-sub-left Inv-loop μ-loop
@@ -198,7 +197,7 @@ loop-again c =
     let s = start l in
     let moved = c .before .before .before .before .exchange .ensures in
     on-lines _ (n s) _ (row s .present .size)
-    (going-turn _ _ _ _ _ _ _ _ _ _ _ _ (going l) (k w) (w .lowest .ensures) (row s .row) _ _ _ _ _ _ (d-is d) (c .before .before .before .before .before .before .before .before .before .before .with-digit .ensures) (moved .0) (moved .1)
+    (settling-turn _ _ _ _ _ _ _ _ _ _ _ _ (going l) (k w) (w .find-line .ensures) (row s .row) _ _ _ _ _ _ (d-is d) (c .before .before .before .before .before .before .before .before .before .before .with-digit .ensures) (moved .0) (moved .1)
     (c .before .before .before .before .before .before .before .word-of .ensures ∙ ap recordOf (c .before .before .before .before .before .before .before .before .gate-for .ensures (n s) (l .loop .a) (row s .present .lines) (on w) (named l))) (some w) (within w)
     refl)
 
@@ -214,7 +213,7 @@ same-length-3 c = going (c .before) .laid .size
 returns : tie.Need-returns Inv-loop μ-loop
 returns c =
     let g = c .before .loop .inv in
-    (λ n e. going-end _ _ _ _ _ _ _ _ _ _ _ _ (g n e) (c .loop-test .left) .0, λ n e. going-end _ _ _ _ _ _ _ _ _ _ _ _ (g n e) (c .loop-test .left) .1)
+    (λ n e. settling-end _ _ _ _ _ _ _ _ _ _ _ _ (g n e) (c .loop-test .left) .0, λ n e. settling-end _ _ _ _ _ _ _ _ _ _ _ _ (g n e) (c .loop-test .left) .1)
 
 pub find-row-spec : {M : Type 1} → statement M
 find-row-spec =
@@ -230,7 +229,7 @@ find-row-spec =
     mul-to
     shared-slice-read-to
     loop-holds
-    lowest-requires
+    find-line-requires
     control-on-requires
     control-on-requires-2
     with-digit-requires

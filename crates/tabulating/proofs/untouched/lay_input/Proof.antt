@@ -4,20 +4,19 @@ use mathlib.Core.List.{List}
 use Prim.Native.Nat.{ℕ, _+_, _-_, _*_, _≤_, _<_}
 use native.Mathlib.Nat.{add-zero}
 use native.Mathlib.Omega.{arith}
-use lib.ListN.{length}
 use Rattle.digits.specs.Digits.{digit}
 use Rattle.digits.proofs.Digits.{digit-lt}
 use Rattle.gates.proofs.Firing.{digit-quad}
-use Rattle.tabulating.specs.Planes.{Laid}
-use Rattle.tabulating.proofs.Laying.{laid-next}
+use Rattle.tabulating.specs.Inner.Planes.{AllPlanes, ShownUpTo}
+use Rattle.tabulating.proofs.UntouchedPlanes.{untouched-next}
 use borrow.Author.Needs.{needs}
 use Rattle.tabulating.proofs.untouched.lay_input.Statement.{statement}
 use Rattle.tabulating.proofs.untouched.lay_input.Tie as tie
 
 record Going (b₀ : List ℕ) (p : ℕ) (b : List ℕ) (line : ℕ) : Type 0 where
-  long : length b ≡ 288
+  long : AllPlanes b
   within : line ≤ 6
-  laid : Laid b₀ (6 * p) → Laid b (6 * p + line)
+  laid : ShownUpTo b₀ (6 * p) → ShownUpTo b (6 * p + line)
 
 abbrev Inv-loop : tie.InvT-loop
 Inv-loop planes₀ p q line₀ planes line = Going planes₀ p planes line
@@ -45,25 +44,25 @@ control-on-requires c κs = search needs
 cast-digit : tie.Need-cast-digit Inv-loop μ-loop
 cast-digit c = omega (arith, low c)
 
-mul-join : tie.Need-mul-join Inv-loop μ-loop
-mul-join c = search needs
+mul-add-input : tie.Need-mul-add-input Inv-loop μ-loop
+mul-add-input c = search needs
 
-add-join : tie.Need-add-join Inv-loop μ-loop
-add-join c = search needs
+add-add-input : tie.Need-add-add-input Inv-loop μ-loop
+add-add-input c = search needs
 
-join-requires : tie.Need-join-requires Inv-loop μ-loop
-join-requires c κs =
+add-input-requires : tie.Need-add-input-requires Inv-loop μ-loop
+add-input-requires c κs =
     let d = c .before in
     (d .before .before .loop .inv .long, omega (arith, low d, d .before .loop-test .taken), d .before .before .before .before .before .pre .1)
 
-mul-join-2 : tie.Need-mul-join-2 Inv-loop μ-loop
-mul-join-2 c = search needs
+mul-add-input-2 : tie.Need-mul-add-input-2 Inv-loop μ-loop
+mul-add-input-2 c = search needs
 
-add-join-2 : tie.Need-add-join-2 Inv-loop μ-loop
-add-join-2 c = search needs
+add-add-input-2 : tie.Need-add-add-input-2 Inv-loop μ-loop
+add-add-input-2 c = search needs
 
-join-requires-2 : tie.Need-join-requires-2 Inv-loop μ-loop
-join-requires-2 c κs =
+add-input-requires-2 : tie.Need-add-input-requires-2 Inv-loop μ-loop
+add-input-requires-2 c κs =
     let d = c .before .before .before .before .before in
     (c .before .before .planes .given ∙ d .before .before .loop .inv .long, omega (arith, d .before .loop-test .taken), d .before .before .before .before .before .pre .1)
 
@@ -81,8 +80,8 @@ loop-again c =
       long = c .before .planes2 .given ∙ c .before .before .before .before .before .planes .given ∙ i .long;
       within = omega (arith, d .before .loop-test .taken);
       laid = λ l.
-          rw (c .before .before .join2 .ensures, c .before .before .before .before .before .before .join .ensures)
-          (laid-next _ _ _ _ (i .long) (d .before .loop-test .taken) (low d) (d .before .before .before .before .before .pre .1) (holding d) (i .laid l));
+          rw (c .before .before .add-input2 .ensures, c .before .before .before .before .before .before .add-input .ensures)
+          (untouched-next _ _ _ _ (i .long) (d .before .loop-test .taken) (low d) (d .before .before .before .before .before .pre .1) (holding d) (i .laid l));
     }
 
 same-length : tie.Need-same-length Inv-loop μ-loop
@@ -104,12 +103,12 @@ lay-input-spec =
     loop-holds
     control-on-requires
     cast-digit
-    mul-join
-    add-join
-    join-requires
-    mul-join-2
-    add-join-2
-    join-requires-2
+    mul-add-input
+    add-add-input
+    add-input-requires
+    mul-add-input-2
+    add-add-input-2
+    add-input-requires-2
     add-line
     loop-less
     loop-again

@@ -7,8 +7,8 @@ use lib.ListN.{length}
 use Rattle.gates.specs.declared.Gate.{Gate}
 use Rattle.rules.specs.declared.fitting.Left.{Left}
 use Rattle.rules.specs.Tidying.{gate}
-use Rattle.rules.specs.Words.{ruleFor}
-use Rattle.rules.proofs.Pairs.{chosen}
+use Rattle.rules.specs.Inner.NamedRules.{ruleFor}
+use Rattle.rules.proofs.FittingPairs.{chosen}
 use Rattle.remembering.specs.Buffers.{gatesIn, Stands}
 use Rattle.remembering.proofs.Buffers.{length-gates}
 use Rattle.tidying.specs.Searches.{leftBy}

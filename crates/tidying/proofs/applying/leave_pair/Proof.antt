@@ -5,9 +5,9 @@ use Rattle.gates.specs.Gates.{inverse}
 use Rattle.rules.specs.declared.fitting.Rule.{Rule}
 use Rattle.rules.specs.declared.fitting.Left.{Left}
 use Rattle.rules.specs.Rules.{reduces, loosened, retuned}
-use Rattle.rules.specs.Words.{ruleFor}
-use Rattle.rules.proofs.Pairs.{chosen-reduces}
-use Rattle.rules.proofs.Words.{packed}
+use Rattle.rules.specs.Inner.NamedRules.{ruleFor}
+use Rattle.rules.proofs.FittingPairs.{chosen-reduces}
+use Rattle.rules.proofs.PairWords.{packed}
 use Rattle.tidying.specs.Searches.{leftBy}
 use borrow.Author.Needs.{needs}
 use Rattle.tidying.proofs.applying.leave_pair.Statement.{statement}
@@ -46,8 +46,8 @@ enum-told-2 c = search needs
 leave-gap-requires-3 : tie.Need-leave-gap-requires-3
 leave-gap-requires-3 c κs = search needs
 
-invert-requires : tie.Need-invert-requires
-invert-requires c κs = search needs
+invert-gate-requires : tie.Need-invert-gate-requires
+invert-gate-requires c κs = search needs
 
 enum-told-3 : tie.Need-enum-told-3
 enum-told-3 c = search needs
@@ -65,7 +65,7 @@ returns : tie.Need-returns
 returns c = told (c .before .before .before .before) _ (c .before .before .enum-told .given .1) _ (c .before .leave-gap .ensures) (c .leave-gap2 .ensures)
 
 returns-2 : tie.Need-returns-2
-returns-2 c = told (c .before .before .before .before) _ (c .before .before .enum-told2 .given .1) _ (c .before .leave-gap3 .ensures) (c .invert .ensures ∙ ap inverse (c .before .before .before .before .before .gate-of2 .ensures))
+returns-2 c = told (c .before .before .before .before) _ (c .before .before .enum-told2 .given .1) _ (c .before .leave-gap3 .ensures) (c .invert-gate .ensures ∙ ap inverse (c .before .before .before .before .before .gate-of2 .ensures))
 
 returns-3 : tie.Need-returns-3
 returns-3 c =
@@ -88,7 +88,7 @@ leave-pair-spec =
     leave-gap-requires-2
     enum-told-2
     leave-gap-requires-3
-    invert-requires
+    invert-gate-requires
     enum-told-3
     reduce-pair-requires
     enum-told-4

@@ -7,7 +7,7 @@ use native.Mathlib.Omega.{arith}
 use lib.ListN.{length}
 use Rattle.cascades.specs.Cascades.{gatesOf}
 use Rattle.cascades.proofs.Cascades.{gates-count}
-use Rattle.rules.specs.Tidying.{size}
+use Rattle.rules.specs.Tidying.{gatesAndControls}
 use Rattle.remembering.proofs.Buffers.{length-gates}
 use Rattle.remembering.proofs.Rows.{reach-start}
 use Rattle.remembering.proofs.Stretches.{marked-start}
@@ -26,7 +26,7 @@ abbrev Inv-loop : tie.InvT-loop
 Inv-loop b₀ far₀ reach₀ marks₀ m from₀ steps₀ b far reach marks from steps = Invariant b₀ far₀ reach₀ marks₀ b far reach marks m from steps
 
 abbrev μ-loop : tie.MeasureT-loop
-μ-loop b₀ far₀ reach₀ marks₀ m from₀ steps₀ b far reach marks from steps = size (gatesOf b₀) - steps
+μ-loop b₀ far₀ reach₀ marks₀ m from₀ steps₀ b far reach marks from steps = gatesAndControls (gatesOf b₀) - steps
 
 module _ (s : tie.Start Inv-loop μ-loop) where
   count : length (gatesOf (s .args .b .now)) ≡ s .args .m
@@ -39,7 +39,7 @@ module _ (c : tie.After-slice-known13 Inv-loop μ-loop) where
       let a = c .before .before .before .before .before .before .before .before .apply-rule .ensures in
       going-next _ _ _ _ _ _ _ _ (c .before .before .before .before .before .before .before .before .before .before .before .before .before .before .before .before .before .before .before .before .before .before .before .before .before .loop .inv .going) _ _ _ _ _ (f .0) (f .1) (c .before .before .before .before .before .before .before .before .before .before .before .before .before .if1 .left) _ _ _ _ _ (a .0) (a .1)
 
-  most-size : size (gatesOf (c .before .before .before .before .before .before .before .before .before .before .before .before .before .before .before .before .before .before .before .before .before .before .before .before .before .before .before .before .before .before .before .before .before .before .before .before .before .before .args .b .now)) ≤ 56000
+  most-size : gatesAndControls (gatesOf (c .before .before .before .before .before .before .before .before .before .before .before .before .before .before .before .before .before .before .before .before .before .before .before .before .before .before .before .before .before .before .before .before .before .before .before .before .before .before .args .b .now)) ≤ 56000
   most-size = omega (arith, size-le (gatesOf (c .before .before .before .before .before .before .before .before .before .before .before .before .before .before .before .before .before .before .before .before .before .before .before .before .before .before .before .before .before .before .before .before .before .before .before .before .before .before .args .b .now)), count (c .before .before .before .before .before .before .before .before .before .before .before .before .before .before .before .before .before .before .before .before .before .before .before .before .before .before .before .before .before .before .before .before .before .before .before .before .before .before), c .before .before .before .before .before .before .before .before .before .before .before .before .before .before .before .before .before .before .before .before .before .before .before .before .before .before .before .before .before .before .before .before .before .before .before .before .before .before .pre .1 .1)
 
 start-rows-requires : tie.Need-start-rows-requires Inv-loop μ-loop
