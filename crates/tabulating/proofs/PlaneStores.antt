@@ -8,7 +8,7 @@ use native.Mathlib.Decide.{ℕ-discrete}
 use native.Mathlib.Omega.{arith}
 use lib.ListN.{length, set, length-set}
 use lib.Seq.{getD-set-same, getD-set-other}
-use Rattle.tabulating.specs.Inner.Planes.{bitOn, member, PlaneWord}
+use Rattle.tabulating.specs.Inner.Planes.{ThreePlanes, bitOn, member, PlaneWord}
 
 module _ (b : List ℕ) (at x a p : ℕ) where
   pub set-here : at < length b → 12 * a + p / 64 ≡ at → member (set b at x) a p ≡ bitOn (p % 64) x
