@@ -1,5 +1,1 @@
-pub mod Decimals
-pub mod Writes
-pub mod Layouts
 pub mod Lengths
-pub mod Lines

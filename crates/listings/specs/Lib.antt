@@ -1,3 +1,1 @@
-pub mod Texts
 pub mod Listings
-pub mod Pieces

@@ -3,10 +3,6 @@ ghost use mathlib.Core.Path.{_≡_};
 ghost use lib.ListN.{length};
 ghost use Rattle.listings.specs.Listings.{listedAs, listingAnswer, listingRoom};
 
-pub mod numbers;
-mod pieces;
-mod sizes;
-pub mod texts;
 mod writing;
 
 use cascades::Priced;
@@ -25,15 +21,14 @@ pub fn listing(lines: u8, cascade: &[u8], room: &mut [u8]) -> Listed
     match cascades::price(lines, 2, cascade) {
         Priced::Refused { number, place } => Listed::Refused { number, place },
         Priced::Cost(cost) => {
-            let names = pieces::NAMES;
-            let size = sizes::size_listing(&names, lines, cascade, cost);
+            let size = writing::size_listing(lines, cascade, cost);
             if room.len() < size {
                 return Listed::Refused {
                     number: 5,
                     place: size,
                 };
             }
-            Listed::Bytes(writing::write_listing(&names, lines, cascade, cost, room))
+            Listed::Bytes(writing::write_listing(lines, cascade, cost, room))
         }
     }
 }

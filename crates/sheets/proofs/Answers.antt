@@ -1,5 +1,5 @@
 -- What a table file is answered: 1 and 2 by its first byte and its length, 3 and 4 by its entries, and else the listing of the synthesized cascade.
--- `told-listing` and `told-room` say that to list the cascade's records is to tell the file's text. Assumes nothing.
+-- `listing-sheet` and `room-sheet` say that to list the cascade's records is to write the file's text. Assumes nothing.
 use mathlib.Core.Path.{_≡_, refl, sym, ap, _∙_}
 use mathlib.Core.Bool.{Bool, true, false, cond, not}
 use mathlib.Core.Logic.{_⊎_}
@@ -20,10 +20,11 @@ use Rattle.cascades.proofs.Checks.{passed}
 use Rattle.cascades.proofs.Readings.{bytes-whole, bytes-gates}
 use Rattle.synthesis.specs.Synthesis.{synthesized, bound, synthesizeAnswer, synthesizeRoom}
 use Rattle.synthesis.proofs.Synthesis.{synthesized-cascade}
-use Rattle.listings.specs.Texts.{ascii, width, decimal}
+use Rattle.texts.specs.Texts.{ascii, width, decimal}
 use Rattle.listings.specs.Listings.{listingText, listingAnswer, listingRoom}
-use Rattle.listings.proofs.Decimals.{length-decimal}
-use Rattle.sheets.specs.Sheets.{linesOf, entriesOf, fileAnswer, textFor, sheetText, sheetAnswer, sheetRoom, Holds}
+use Rattle.texts.proofs.Decimals.{length-decimal}
+use Rattle.sheets.specs.Sheets.{linesOf, entriesOf, fileAnswer, textFor, sheetText, sheetAnswer, sheetRoom}
+use Rattle.sheets.specs.Inner.TableFiles.{TableFile}
 
 module _ (f : List ℕ) where
   -- ---- the file's answer
@@ -58,21 +59,21 @@ module _ (f : List ℕ) where
   -- ---- the call, by the size of the room
 
   module _ (room : List ℕ) (size : ℕ) (is : size ≡ length (sheetText f)) where
-    pub told-small : length room < size → (refused 5 size ≡ sheetAnswer f (length room)) × (room ≡ sheetRoom f room)
+    pub sheet-small : length room < size → (refused 5 size ≡ sheetAnswer f (length room)) × (room ≡ sheetRoom f room)
     unfolding sheetAnswer sheetRoom
-    told-small lt = rw is (refused-both _ 5 (length (sheetText f)) _ room (refusing-yes _ 5 _ _ (lt-ltb (length room) (length (sheetText f)) (omega arith))))
+    sheet-small lt = rw is (refused-both _ 5 (length (sheetText f)) _ room (refusing-yes _ 5 _ _ (lt-ltb (length room) (length (sheetText f)) (omega arith))))
 
-    pub told-written : size ≤ length room → (now : List ℕ) → now ≡ sets room 0 (sheetText f) → (accepted (size ∷ []) ≡ sheetAnswer f (length room)) × (now ≡ sheetRoom f room)
+    pub sheet-written : size ≤ length room → (now : List ℕ) → now ≡ sets room 0 (sheetText f) → (accepted (size ∷ []) ≡ sheetAnswer f (length room)) × (now ≡ sheetRoom f room)
     unfolding sheetAnswer sheetRoom
-    told-written le now e =
+    sheet-written le now e =
         rw is
         (accepted-both _ (length (sheetText f) ∷ []) _ room now (refusing-no _ 5 _ _ (le-ltb (length room) (length (sheetText f)) (omega arith)))
         (e ∙ sets-laid (sheetText f) room (omega arith)))
 
-  -- where a text is told, the room holds it
-  pub told-fits : (m room : ℕ) → accepted (m ∷ []) ≡ sheetAnswer f room → m ≤ room
+  -- where a text is written, the room holds it
+  pub sheet-fits : (m room : ℕ) → accepted (m ∷ []) ≡ sheetAnswer f room → m ≤ room
   unfolding sheetAnswer refusing
-  told-fits m room = go (ltb room (length (sheetText f))) refl
+  sheet-fits m room = go (ltb room (length (sheetText f))) refl
     where
       go : (b : Bool) → ltb room (length (sheetText f)) ≡ b
           → accepted (m ∷ []) ≡ cond b (refused 5 (length (sheetText f))) (accepted (length (sheetText f) ∷ [])) → m ≤ room
@@ -85,27 +86,27 @@ module _ (f : List ℕ) where
 
 -- ---- what synthesis finds of the entries, with room enough for its records
 
-module _ (f : List ℕ) (n : ℕ) (t : List ℕ) (h : Holds f n t) where
+module _ (f : List ℕ) (n : ℕ) (h : TableFile f n) (t : List ℕ) (entries : t ≡ entriesOf f) where
   pub file-on-table : fileAnswer f ≡ onTable (3 ^ n) t (accepted [])
-  file-tabled = rw (h .entries, h .first) (file-whole f (rw (h .first) at (h .lines)) (rw (h .first) at (h .size)))
+  file-tabled = rw (entries, h .first) (file-whole f (rw (h .first) at (h .lines)) (rw (h .first) at (h .size)))
 
   module _ (perm : Permutation (3 ^ n) t) where
     text-is : sheetText f ≡ listingText n (synthesized n t)
-    text-is = rw (h .entries, h .first) (text-listing f (file-on-table ∙ on-table-permutation (3 ^ n) t perm (accepted [])))
+    text-is = rw (entries, h .first) (text-listing f (file-on-table ∙ on-table-permutation (3 ^ n) t perm (accepted [])))
 
     -- the records of the cascade, listed
     listed-text : listingText n (gatesOf (bytesOf (synthesized n t))) ≡ sheetText f
     listed-text = ap (listingText n) (bytes-gates n (synthesized n t) (synthesized-cascade n t (lines-are n (h .lines) .1) perm .gates)) ∙ sym text-is
 
-    pub told-listing : (room : ℕ) → listingAnswer n (bytesOf (synthesized n t)) room ≡ sheetAnswer f room
+    pub listing-sheet : (room : ℕ) → listingAnswer n (bytesOf (synthesized n t)) room ≡ sheetAnswer f room
     unfolding listingAnswer sheetAnswer
-    told-listing room =
+    listing-sheet room =
         passed n (bytesOf (synthesized n t)) _ (length (synthesized n t)) (bytes-whole n (synthesized n t) (h .lines) (synthesized-cascade n t (lines-are n (h .lines) .1) perm))
         ∙ rw listed-text
 
-    pub told-room : (room : List ℕ) → listingRoom n (bytesOf (synthesized n t)) room ≡ sheetRoom f room
+    pub room-sheet : (room : List ℕ) → listingRoom n (bytesOf (synthesized n t)) room ≡ sheetRoom f room
     unfolding listingRoom sheetRoom
-    told-room room = rw (told-listing (length room), listed-text)
+    room-sheet room = rw (listing-sheet (length room), listed-text)
 
   module _ (L : ℕ) (wide : bound n ≤ L / 8) where
     made : Permutation (3 ^ n) t → synthesizeAnswer n t L ≡ accepted (length (synthesized n t) ∷ [])

@@ -16,7 +16,7 @@ use Rattle.tables.specs.Permutations.{Permutation}
 use Rattle.tables.proofs.Accepts.{Refuses, on-table-is, on-table-permutation}
 use Rattle.synthesis.specs.Synthesis.{synthesized}
 use Rattle.synthesis.proofs.Synthesis.{bound-most, synthesized-bound, synthesized-cascade}
-use Rattle.listings.proofs.Decimals.{width-most}
+use Rattle.texts.proofs.Decimals.{width-most}
 use Rattle.listings.proofs.Lengths.{listing-lines}
 use Rattle.sheets.specs.Sheets.{linesOf, entriesOf, fileAnswer, sheetText, sheetAnswer}
 use Rattle.sheets.proofs.Answers.{file-lines, file-broken, file-whole, refusal-length, text-listing}

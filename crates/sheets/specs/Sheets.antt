@@ -1,15 +1,14 @@
 -- The program's whole text for the bytes of a table file.
 use Prim.Native.Nat.{ℕ, _+_, _-_, _*_, _/_, _^_}
-use mathlib.Core.Path.{_≡_}
-use mathlib.Core.Bool.{true, not}
+use mathlib.Core.Bool.{not}
 use mathlib.Core.List.{List, [], _∷_, _++_}
 use lib.Dec.{eqb, ltb}
 use lib.ListN.{length, getD}
 use Rattle.ranges.specs.Ranges.{span}
-use Rattle.card.specs.Card.{Answer, Answer.accepted, Answer.refused, refusing, linesOk, onLines, after, laid}
+use Rattle.card.specs.Card.{Answer, Answer.accepted, Answer.refused, refusing, onLines, after, laid}
 use Rattle.tables.specs.Tables.{onTable}
 use Rattle.synthesis.specs.Synthesis.{synthesized}
-use Rattle.listings.specs.Texts.{ascii, decimal}
+use Rattle.texts.specs.Texts.{ascii, decimal}
 use Rattle.listings.specs.Listings.{listingText}
 
 -- the first byte is n, 0 for an empty input; then entries of 16 bits, low byte first
@@ -37,10 +36,3 @@ sheetAnswer f room = refusing (ltb room (length (sheetText f))) 5 (length (sheet
 
 unfoldable pub sheetRoom : List ℕ → List ℕ → List ℕ
 sheetRoom f room = after (sheetAnswer f (length room)) (laid (sheetText f) room) room
-
--- the file has lines n from 1 to 6 and the entries t, one for each pattern: what reading it leaves to those who go on
-pub record Holds (f : List ℕ) (n : ℕ) (t : List ℕ) : Type 0 where
-  pub lines : linesOk n ≡ true
-  pub first : n ≡ linesOf f
-  pub size : length f ≡ 1 + 2 * 3 ^ n
-  pub entries : t ≡ entriesOf f

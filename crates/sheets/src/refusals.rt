@@ -3,26 +3,25 @@ ghost use mathlib.Core.Path.{_≡_};
 ghost use Prim.Native.Nat.{_≤_};
 ghost use lib.ListN.{length};
 ghost use Rattle.card.specs.Card.{Answer.refused};
-ghost use Rattle.listings.specs.Texts.{Written};
+ghost use Rattle.texts.specs.Inner.Stores.{Stored};
 ghost use Rattle.listings.specs.Listings.{listedAs};
 ghost use Rattle.sheets.specs.Sheets.{fileAnswer, sheetText, sheetAnswer, sheetRoom};
 use listings::Listed;
-use listings::numbers;
-use listings::texts;
+use texts::numbers;
+use texts::storing;
 
 // The line, from the start of the room on.
 fn write_refusal(file: &[u8], number: u8, place: usize, room: &mut [u8]) -> usize
     requires { ⌜ (fileAnswer (now file) ≡ refused number place) × (length (sheetText (now file)) ≤ length (now room)) ⌝ }
-    ensures { λ r. ⌜ Written (now (room .entry)) 0 (sheetText (now (file .entry))) (now (room .exit)) r ⌝ }
+    ensures { λ r. ⌜ Stored (now (room .entry)) 0 (sheetText (now (file .entry))) (now (room .exit)) r ⌝ }
 {
-    let numbered = texts::write_labelled(b"refused ", number as usize, room, 0);
-    let end = texts::write_labelled(b" at ", place, room, numbered);
-    room[end] = b'\n';
-    end + 1
+    let numbered = storing::write_labelled(b"refused ", number as usize, room, 0);
+    let end = storing::write_labelled(b" at ", place, room, numbered);
+    storing::write_text(b"\n", room, end)
 }
 
 // The line, where the room has place for it; the line's own words have 13 bytes.
-pub fn refuse(file: &[u8], number: u8, place: usize, room: &mut [u8]) -> Listed
+pub fn list_refusal(file: &[u8], number: u8, place: usize, room: &mut [u8]) -> Listed
     requires { ⌜ fileAnswer (now file) ≡ refused number place ⌝ }
     ensures { λ r. ⌜ listedAs r ≡ sheetAnswer (now (file .entry)) (length (now (room .entry))) ⌝ }
     ensures { λ r. ⌜ now (room .exit) ≡ sheetRoom (now (file .entry)) (now (room .entry)) ⌝ }

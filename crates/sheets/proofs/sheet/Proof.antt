@@ -1,4 +1,4 @@
--- `sheets::sheet` meets its contract: 1 by the first byte, 2 by the length, and else what is told of the entries. Assumes nothing.
+-- `sheets::sheet` meets its contract: 1 by the first byte, 2 by the length, and else the entries' sheet. Assumes nothing.
 use mathlib.Core.Path.{_≡_, sym, _∙_}
 use mathlib.Core.Bool.{true}
 use borrow.Author.Tests.{not-true, not-false}
@@ -19,8 +19,8 @@ lines-of-requires c κs = search needs
 lines-ok-requires : tie.Need-lines-ok-requires
 lines-ok-requires c κs = search needs
 
-refuse-requires : tie.Need-refuse-requires
-refuse-requires c κs =
+list-refusal-requires : tie.Need-list-refusal-requires
+list-refusal-requires c κs =
     let d = c .before .before in
     file-lines _ (rw (d .before .lines-of .ensures) at (sym (d .lines-ok .ensures) ∙ not-true _ (c .before .if1 .taken)))
 
@@ -45,8 +45,8 @@ mul-if2 c = search needs
 add-if2 : tie.Need-add-if2
 add-if2 c = search needs
 
-refuse-requires-2 : tie.Need-refuse-requires-2
-refuse-requires-2 c κs =
+list-refusal-requires-2 : tie.Need-list-refusal-requires-2
+list-refusal-requires-2 c κs =
     let d = c .before .before .before in
     let n = d .before .before .lines-of .ensures in
     let p = rw n at (c .before .before .power .ensures) in
@@ -58,11 +58,11 @@ same-length-2 c = search needs
 returns-2 : tie.Need-returns-2
 returns-2 c = search needs
 
-tell-file-requires : tie.Need-tell-file-requires
-tell-file-requires c κs =
+list-file-requires : tie.Need-list-file-requires
+list-file-requires c κs =
     let d = c .before .before .before in
     let p = c .before .before .power .ensures in
-    (six d, d .before .before .lines-of .ensures, rw p at (c .before .if2 .left), p)
+    (record { lines = six d; first = d .before .before .lines-of .ensures; size = rw p at (c .before .if2 .left) }, p)
 
 same-length-3 : tie.Need-same-length-3
 same-length-3 c = search needs
@@ -76,7 +76,7 @@ sheet-spec =
     (tie.spec
     lines-of-requires
     lines-ok-requires
-    refuse-requires
+    list-refusal-requires
     same-length
     returns
     cast-power
@@ -84,9 +84,9 @@ sheet-spec =
     cast-size
     mul-if2
     add-if2
-    refuse-requires-2
+    list-refusal-requires-2
     same-length-2
     returns-2
-    tell-file-requires
+    list-file-requires
     same-length-3
     returns-3)

@@ -4,7 +4,7 @@ use Prim.Native.Nat.{_≤_}
 use lib.ListN.{length}
 use lib.Seq.{length-take-le}
 use Rattle.listings.specs.Listings.{listedAs}
-use Rattle.sheets.proofs.Answers.{told-fits}
+use Rattle.sheets.proofs.Answers.{sheet-fits}
 use borrow.Author.Needs.{needs}
 use Rattle.tiles.proofs.main.Statement.{statement}
 use Rattle.tiles.proofs.main.Tie as tie
@@ -13,7 +13,7 @@ module _ (c : tie.After-known-told) where
   within : c .before .m .given .0 .0 ≤ length (c .before .before .before .before .sheet .last .1 .0)
   within =
       let d = c .before .before .before .before in
-      rw (d .sheet .kept .1 .0) (told-fits _ _ _ (ap listedAs (sym (c .before .m .given .1)) ∙ d .sheet .ensures .0))
+      rw (d .sheet .kept .1 .0) (sheet-fits _ _ _ (ap listedAs (sym (c .before .m .given .1)) ∙ d .sheet .ensures .0))
 
 slice-aggregate-read-full : tie.Need-slice-aggregate-read-full
 slice-aggregate-read-full c = search needs

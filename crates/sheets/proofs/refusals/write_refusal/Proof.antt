@@ -3,11 +3,9 @@ use mathlib.Core.Path.{_≡_}
 use mathlib.Core.List.{List, [], _∷_, _++_}
 use Prim.Native.Nat.{ℕ, _+_, _≤_}
 use native.Mathlib.Nat.{zero-add}
-use lib.ListN.{length, length-set}
-use native.Mathlib.Omega.{arith}
-use Rattle.listings.specs.Texts.{ascii, decimal}
-use Rattle.listings.specs.Pieces.{Writing}
-use Rattle.listings.proofs.Writes.{written-byte, writing-start, writing-next, writing-last, left-fits, piece-fits, first-fits}
+use lib.ListN.{length}
+use Rattle.texts.specs.Texts.{ascii, decimal}
+use Rattle.texts.proofs.Writes.{Writing, writing-start, writing-next, writing-last, left-fits, piece-fits, first-fits}
 use Rattle.sheets.specs.Sheets.{sheetText}
 use Rattle.sheets.proofs.Answers.{refusal-parts}
 use borrow.Author.Needs.{needs}
@@ -29,17 +27,18 @@ module _ (c : tie.Start) where
   fits = rw zero-add (rw text at (c .pre .1))
 
 module _ (c : tie.After-write-labelled) where
-  numbered : (let a = c .before .before .before .before .before .args in
-      Writing (a .room .now) 0 (line (a .number) (a .place)) (c .write-labelled .last .1 .1 .0) (c .write-labelled .result) (fromPlace (a .place)))
+  abbrev start : tie.Start
+  start = c .before .before .before .before .before
+
+  numbered : (let a = start .args in Writing (a .room .now) 0 (line (a .number) (a .place)) (c .write-labelled .last .1 .1 .0) (c .write-labelled .result) (fromPlace (a .place)))
   numbered = writing-next (writing-start _ _ _) (c .write-labelled .ensures)
 
 module _ (c : tie.After-write-labelled2) where
-  done : (let a = c .before .before .before .before .before .before .before .before .before .before .args in
-      Writing (a .room .now) 0 (line (a .number) (a .place)) (c .write-labelled2 .last .1 .1 .0) (c .write-labelled2 .result) (10 ∷ []))
-  done = writing-next (numbered (c .before .before .before .before .before)) (c .write-labelled2 .ensures)
+  abbrev start2 : tie.Start
+  start2 = start (c .before .before .before .before .before)
 
-  room-left : c .write-labelled2 .result + 1 ≤ length (c .write-labelled2 .last .1 .1 .0)
-  room-left = left-fits done (fits (c .before .before .before .before .before .before .before .before .before .before))
+  done : (let a = start2 .args in Writing (a .room .now) 0 (line (a .number) (a .place)) (c .write-labelled2 .last .1 .1 .0) (c .write-labelled2 .result) (10 ∷ []))
+  done = writing-next (numbered (c .before .before .before .before .before)) (c .write-labelled2 .ensures)
 
 slice-aggregate-write-labelled : tie.Need-slice-aggregate-write-labelled
 slice-aggregate-write-labelled c = search needs
@@ -56,22 +55,23 @@ slice-aggregate-write-labelled-2 c = search needs
 write-labelled-requires-2 : tie.Need-write-labelled-requires-2
 write-labelled-requires-2 c κs =
     let d = c .before .before .before .before in
-    let start = d .before .before .before .before .before in
-    piece-fits (ascii " at " ++ decimal (start .args .place)) (10 ∷ []) (numbered d) (fits start)
+    piece-fits (ascii " at " ++ decimal (start d .args .place)) (10 ∷ []) (numbered d) (fits (start d))
 
-slice-write-room : tie.Need-slice-write-room
-slice-write-room c = omega (arith, room-left (c .before .before))
+slice-aggregate-write-text : tie.Need-slice-aggregate-write-text
+slice-aggregate-write-text c = search needs
 
-add-result : tie.Need-add-result
-add-result c = omega (arith, room-left (c .before .before))
+write-text-requires : tie.Need-write-text-requires
+write-text-requires c κs =
+    let d = c .before .before .before .before in
+    left-fits (done d) (fits (start2 d))
 
 same-length : tie.Need-same-length
-same-length c = simp length-set (done (c .before .before) .long)
+same-length c = search needs
 
 returns : tie.Need-returns
 returns c =
-    let start = c .before .before .before .before .before .before .before .before .before .before .before .before in
-    rw (text start) (writing-last (done (c .before .before)) (written-byte _ _ _))
+    let d = c .before .before .before .before .before .before .before in
+    rw (text (start2 d)) (writing-last (done d) (c .before .before .write-text .ensures))
 
 pub write-refusal-spec : {M : Type 1} → statement M
 write-refusal-spec =
@@ -81,7 +81,7 @@ write-refusal-spec =
     write-labelled-requires
     slice-aggregate-write-labelled-2
     write-labelled-requires-2
-    slice-write-room
-    add-result
+    slice-aggregate-write-text
+    write-text-requires
     same-length
     returns)
