@@ -88,7 +88,7 @@ module _ (f : List ℕ) where
 
 module _ (f : List ℕ) (n : ℕ) (h : TableFile f n) (t : List ℕ) (entries : t ≡ entriesOf f) where
   pub file-on-table : fileAnswer f ≡ onTable (3 ^ n) t (accepted [])
-  file-tabled = rw (entries, h .first) (file-whole f (rw (h .first) at (h .lines)) (rw (h .first) at (h .size)))
+  file-on-table = rw (entries, h .first) (file-whole f (rw (h .first) at (h .lines)) (rw (h .first) at (h .size)))
 
   module _ (perm : Permutation (3 ^ n) t) where
     text-is : sheetText f ≡ listingText n (synthesized n t)

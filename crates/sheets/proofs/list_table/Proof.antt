@@ -1,7 +1,7 @@
 -- `sheets::list_table` meets its contract: what synthesis refuses the file is refused, and what it makes is listed. Assumes nothing.
 use mathlib.Core.Path.{_≡_, sym, ap, _∙_}
 use mathlib.Core.List.{List}
-use Prim.Native.Nat.{ℕ, _*_, _≤_}
+use Prim.Native.Nat.{ℕ, _*_, _^_, _≤_}
 use lib.ListN.{length, take}
 use lib.Seq.{length-take-le, take-at}
 use native.Mathlib.Omega.{arith}
