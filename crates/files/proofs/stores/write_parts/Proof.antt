@@ -1,6 +1,5 @@
 -- `files::stores::write_parts` meets its contract: the parts of the file are stored one after the other. Assumes nothing.
 use mathlib.Core.Path.{_∙_}
-use native.Mathlib.Omega.{arith}
 use Rattle.files.specs.Files.{fileSize}
 use Rattle.files.proofs.Frames.{file-stored}
 use borrow.Author.Needs.{needs}

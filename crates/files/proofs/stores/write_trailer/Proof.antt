@@ -1,5 +1,4 @@
 -- `files::stores::write_trailer` meets its contract: the parts of the trailer are stored one after the other. Assumes nothing.
-use mathlib.Core.Path.{_∙_}
 use lib.ListN.{length-set}
 use native.Mathlib.Omega.{arith}
 use Rattle.files.proofs.Frames.{trailer-stored}
