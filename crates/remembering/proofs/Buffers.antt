@@ -29,12 +29,16 @@ use Rattle.cascades.specs.Inner.Checked.{Whole}
 use Rattle.cascades.proofs.Cascades.{gates-good, gates-count}
 use Rattle.cascades.proofs.Stored.{length-bytes}
 use Rattle.rules.specs.Tidying.{gate}
-use Rattle.remembering.specs.Buffers.{gatesIn, gap, isGap, Stands, kept, rank, Holds, Moved, Kept}
-use Rattle.remembering.proofs.Gaps.{kept-each, rank-start, rank-all, rank-place, rank-next-gap, rank-next, gate-kept, gate-real}
+use Rattle.remembering.specs.Inner.Buffers.{gatesIn, gap, isGap, GateOrGap, ungapped, rank, BufferHolds, RecordMoved, KeptOrGone}
+use Rattle.remembering.proofs.Gaps.{ungapped-each, rank-start, rank-all, rank-place, rank-next-gap, rank-next, gate-ungapped, gate-real}
 
 pub length-gates : (b : List ℕ) (m : ℕ) → length (gatesIn b m) ≡ m
 unfolding gatesIn
 length-gates b m = length-span (λ i. gateAt b (8 * i)) 0 m
+
+-- a place below m is one of theirs
+pub gates-inside : (b : List ℕ) (m q : ℕ) → q < m → q < length (gatesIn b m)
+gates-inside b m q lt = rw (length-gates b m) lt
 
 pub gate-in : (b : List ℕ) (m q : ℕ) → q < m → gate (gatesIn b m) q ≡ gateAt b (8 * q)
 unfolding gatesIn
@@ -53,12 +57,12 @@ record-line g (suc (suc (suc (suc zero)))) lt = digit-lt 4 4 (g .controls) (omeg
 record-line g (suc (suc (suc (suc (suc zero))))) lt = digit-lt 4 5 (g .controls) (omega arith)
 record-line g (suc (suc (suc (suc (suc (suc k)))))) lt = absurd (omega arith)
 
-module _ (b : List ℕ) (gs : List Gate) (w : Holds b gs) (q : ℕ) (lt : q < length gs) where
+module _ (b : List ℕ) (gs : List Gate) (w : BufferHolds b gs) (q : ℕ) (lt : q < length gs) where
   pub holds-fits : 8 * q + 8 ≤ length b
   holds-fits = omega (arith, w .room)
 
-  pub holds-gate : Stands (gate gs q)
-  holds-gate = each-at Stands gs _ (w .gates) q lt
+  pub holds-gate : GateOrGap (gate gs q)
+  holds-gate = each-at GateOrGap gs _ (w .gates) q lt
 
   standing : sets b (8 * q) (recordOf (gate gs q)) ≡ b
   standing = sets-same (recordOf (gate gs q)) b (8 * q) 0 (λ k l. w .bytes q k lt (rw (length-record (gate gs q)) at l))
@@ -72,7 +76,7 @@ module _ (b : List ℕ) (gs : List Gate) (w : Holds b gs) (q : ℕ) (lt : q < le
   holds-reads = ap (λ (s : List ℕ). gateAt s (8 * q)) (sym standing) ∙ gate-written (gate gs q) b (8 * q) holds-fits (holds-gate .packed)
 
 -- the gates that the buffer starts with are those that it holds
-pub holds-list : (b : List ℕ) (gs : List Gate) (m : ℕ) → Holds b gs → length gs ≡ m → gatesIn b m ≡ gs
+pub holds-list : (b : List ℕ) (gs : List Gate) (m : ℕ) → BufferHolds b gs → length gs ≡ m → gatesIn b m ≡ gs
 holds-list b gs m w e =
     ext-getD _ (gatesIn b m) gs (length-gates b m ∙ sym e)
     (λ q lt. let l : q < m = rw (length-gates b m) at lt in gate-in b m q l ∙ holds-reads b gs w q (rw e l))
@@ -91,8 +95,8 @@ wider n six g ok =
       packed = ok .packed;
     }
 
-pub stands-gate : (g : Gate) → IsGate 6 g → Stands g
-stands-gate g ok =
+pub gate-either : (g : Gate) → IsGate 6 g → GateOrGap g
+gate-either g ok =
     record {
       op-high = ok .op-high;
       on-line = omega (arith, ok .on-line);
@@ -101,21 +105,21 @@ stands-gate g ok =
       blank = λ e. clash (isGap g) e (gate-real g ok);
     }
 
-pub stands-gap : Stands gap
+pub gap-either : GateOrGap gap
 unfolding isGap
-stands-gap = record { op-high = omega arith; on-line = omega arith; packed = omega arith; real = λ e. clash true refl e; blank = λ e. refl }
+gap-either = record { op-high = omega arith; on-line = omega arith; packed = omega arith; real = λ e. clash true refl e; blank = λ e. refl }
 
 pub gates-start : (n : ℕ) (b : List ℕ) (m : ℕ) → Whole n b m → Each (IsGate 6) (gatesOf b)
 gates-start n b m w = each-imp (IsGate n) (IsGate 6) (wider n (lines-are n (w .lines) .1)) (gatesOf b) (gates-good n b m w)
 
-pub holds-start : (n : ℕ) (b : List ℕ) (m : ℕ) → Whole n b m → Holds b (gatesOf b)
+pub holds-start : (n : ℕ) (b : List ℕ) (m : ℕ) → Whole n b m → BufferHolds b (gatesOf b)
 unfolding gatesOf
 holds-start n b m w =
     let count : records b ≡ m = omega (arith, w .size) in
     let long : length (gatesOf b) ≡ m = gates-count b ∙ count in
     record {
       room = omega (arith, w .size);
-      gates = each-imp (IsGate 6) Stands stands-gate (gatesOf b) (gates-start n b m w);
+      gates = each-imp (IsGate 6) GateOrGap gate-either (gatesOf b) (gates-start n b m w);
       bytes = λ q k lq lk.
           let l : q < m = omega arith in
           let g : gate (gatesOf b) q ≡ gateAt b (8 * q) =
@@ -127,12 +131,12 @@ holds-start n b m w =
 
 -- ---- one gate replaced
 
-pub holds-set : (b : List ℕ) (gs : List Gate) (p : ℕ) (g : Gate) → Holds b gs → p < length gs → Stands g
-    → Holds (sets b (8 * p) (recordOf g)) (set gs p g)
+pub holds-set : (b : List ℕ) (gs : List Gate) (p : ℕ) (g : Gate) → BufferHolds b gs → p < length gs → GateOrGap g
+    → BufferHolds (sets b (8 * p) (recordOf g)) (set gs p g)
 holds-set b gs p g w lt ok =
     record {
       room = rw (length-set gs p g, length-sets b (8 * p) (recordOf g)) (w .room);
-      gates = each-set Stands gs p g (w .gates) ok;
+      gates = each-set GateOrGap gs p g (w .gates) ok;
       bytes = λ q k lq lk. byte q k (rw (length-set gs p g) at lq) lk (ℕ-discrete q p);
     }
   where
@@ -156,14 +160,14 @@ pub record Closing (gs : List Gate) (s t : List ℕ) (p q : ℕ) : Type 0 where
   pub len : length t ≡ length s
   pub inside : p ≤ length gs
   pub count : q ≡ rank gs p
-  pub front : (x k : ℕ) → x < q → k < 8 → getD t (8 * x + k) 0 ≡ getD (recordOf (gate (kept gs) x)) k 0
+  pub front : (x k : ℕ) → x < q → k < 8 → getD t (8 * x + k) 0 ≡ getD (recordOf (gate (ungapped gs) x)) k 0
   pub rest : (y : ℕ) → 8 * p ≤ y → getD t y 0 ≡ getD s y 0
 
 pub closing-start : (gs : List Gate) (s : List ℕ) → Closing gs s s 0 0
 closing-start gs s =
     record { len = refl; inside = omega arith; count = sym (rank-start gs); front = λ x k a b. absurd (omega arith); rest = λ y l. refl }
 
-module _ (gs : List Gate) (s t : List ℕ) (p q : ℕ) (h : Holds s gs) (lt : p < length gs) (w : Closing gs s t p q) where
+module _ (gs : List Gate) (s t : List ℕ) (p q : ℕ) (h : BufferHolds s gs) (lt : p < length gs) (w : Closing gs s t p q) where
   pub closing-order : q ≤ p
   closing-order = omega (arith, w .count, rank-place gs p)
 
@@ -178,7 +182,7 @@ module _ (gs : List Gate) (s t : List ℕ) (p q : ℕ) (h : Holds s gs) (lt : p 
   unfolding recordOf
   operator-now = let e : 8 * p + 0 ≡ 8 * p = omega arith in rw e at (byte-now 0 (omega arith))
 
-  pub closing-next : (u : List ℕ) (r : ℕ) → Kept t u p q r → Closing gs s u (p + 1) r
+  pub closing-next : (u : List ℕ) (r : ℕ) → KeptOrGone t u p q r → Closing gs s u (p + 1) r
   unfolding isGap
   closing-next u r v = ⊎-elim at-gap at-gate (decide (isGap (gate gs p)))
     where
@@ -193,9 +197,9 @@ module _ (gs : List Gate) (s t : List ℕ) (p q : ℕ) (h : Holds s gs) (lt : p 
             rest = λ y l. ap (λ (x : List ℕ). getD x y 0) (still .0) ∙ w .rest y (omega arith);
           }
 
-      byte : Moved t u p q → isGap (gate gs p) ≡ false → (x k : ℕ) → x < q + 1 → k < 8 → Dec (x ≡ q) → getD u (8 * x + k) 0 ≡ getD (recordOf (gate (kept gs) x)) k 0
+      byte : RecordMoved t u p q → isGap (gate gs p) ≡ false → (x k : ℕ) → x < q + 1 → k < 8 → Dec (x ≡ q) → getD u (8 * x + k) 0 ≡ getD (recordOf (gate (ungapped gs) x)) k 0
       byte m e x k a b (yes c) =
-          rw (c, w .count, gate-kept gs p lt e)
+          rw (c, w .count, gate-ungapped gs p lt e)
           (rw (w .count) at (m .here k b) ∙ byte-now k b)
       byte m e x k a b (no ne) = m .below (8 * x + k) (omega arith) ∙ w .front x k (omega arith) b
 
@@ -210,12 +214,12 @@ module _ (gs : List Gate) (s t : List ℕ) (p q : ℕ) (h : Holds s gs) (lt : p 
             rest = λ y l. moved .0 .above y (omega (arith, closing-order)) ∙ w .rest y (omega arith);
           }
 
-pub closing-end : (gs : List Gate) (s t : List ℕ) (p q : ℕ) → Holds s gs → length gs ≤ p → Closing gs s t p q → Holds t (kept gs) × (q ≡ length (kept gs))
+pub closing-end : (gs : List Gate) (s t : List ℕ) (p q : ℕ) → BufferHolds s gs → length gs ≤ p → Closing gs s t p q → BufferHolds t (ungapped gs) × (q ≡ length (ungapped gs))
 closing-end gs s t p q h le w =
-    let count : q ≡ length (kept gs) = w .count ∙ rank-all gs p le in (
+    let count : q ≡ length (ungapped gs) = w .count ∙ rank-all gs p le in (
       record {
         room = omega (arith, w .len, h .room, rank-place gs p, w .inside, w .count);
-        gates = kept-each Stands gs (h .gates);
+        gates = ungapped-each GateOrGap gs (h .gates);
         bytes = λ x k a b. w .front x k (omega arith) b;
       },
       count,
@@ -232,7 +236,7 @@ record-of (g ∷ gs) (suc q) k lq lk =
     ap (λ (x : ℕ). getD (recordOf g ++ bytesOf gs) x 0) e ∙ getD-append-add (recordOf g) (bytesOf gs) (8 * q + k) 0 ∙ record-of gs q k (omega arith) lk
 
 -- the bytes of the buffer are the records of the gates that it holds
-pub holds-bytes : (b : List ℕ) (gs : List Gate) → Holds b gs → take (8 * length gs) b ≡ bytesOf gs
+pub holds-bytes : (b : List ℕ) (gs : List Gate) → BufferHolds b gs → take (8 * length gs) b ≡ bytesOf gs
 holds-bytes b gs w =
     ext-getD 0 (take (8 * length gs) b) (bytesOf gs) (long ∙ sym (length-bytes gs))
     (λ x lt.

@@ -18,18 +18,18 @@ use Rattle.gates.specs.Gates.{control, IsGate}
 use Rattle.rules.specs.Places.{isC, upsets, blocks, clashes, mayChange}
 use Rattle.rules.specs.Rules.{sameLines, cancels, merges, reduces, fits}
 use Rattle.rules.specs.Tidying.{gate, without}
-use Rattle.remembering.specs.Buffers.{gap, isGap, kept, rank}
+use Rattle.remembering.specs.Inner.Buffers.{gap, isGap, ungapped, rank}
 
 -- ---- one more in front
 
 module _ (g : Gate) (gs : List Gate) where
-  kept-gap : isGap g ≡ true → kept (g ∷ gs) ≡ kept gs
-  unfolding kept
-  kept-gap e = rw e
+  ungapped-gap : isGap g ≡ true → ungapped (g ∷ gs) ≡ ungapped gs
+  unfolding ungapped
+  ungapped-gap e = rw e
 
-  kept-gate : isGap g ≡ false → kept (g ∷ gs) ≡ g ∷ kept gs
-  unfolding kept
-  kept-gate e = rw e
+  ungapped-gate : isGap g ≡ false → ungapped (g ∷ gs) ≡ g ∷ ungapped gs
+  unfolding ungapped
+  ungapped-gate e = rw e
 
   rank-gap : (p : ℕ) → isGap g ≡ true → rank (g ∷ gs) (suc p) ≡ rank gs p
   unfolding rank
@@ -43,16 +43,16 @@ module _ (g : Gate) (gs : List Gate) where
   unfolding rank
   rank-zero = refl
 
-pub kept-all : (gs : List Gate) → Each (λ g. isGap g ≡ false) gs → kept gs ≡ gs
-unfolding kept
-kept-all [] e = refl
-kept-all (g ∷ gs) e = rw (e .0) (ap (λ (l : List Gate). g ∷ l) (kept-all gs (e .1)))
+pub ungapped-all : (gs : List Gate) → Each (λ g. isGap g ≡ false) gs → ungapped gs ≡ gs
+unfolding ungapped
+ungapped-all [] e = refl
+ungapped-all (g ∷ gs) e = rw (e .0) (ap (λ (l : List Gate). g ∷ l) (ungapped-all gs (e .1)))
 
-pub kept-each : (P : Gate → Type 0) (gs : List Gate) → Each P gs → Each P (kept gs)
-unfolding kept
-kept-each P [] e = tt
-kept-each P (g ∷ gs) e =
-    ⊎-elim (λ (q : isGap g ≡ true). rw (kept-gap g gs q) (kept-each P gs (e .1))) (λ (q : isGap g ≡ false). rw (kept-gate g gs q) (e .0, kept-each P gs (e .1)))
+pub ungapped-each : (P : Gate → Type 0) (gs : List Gate) → Each P gs → Each P (ungapped gs)
+unfolding ungapped
+ungapped-each P [] e = tt
+ungapped-each P (g ∷ gs) e =
+    ⊎-elim (λ (q : isGap g ≡ true). rw (ungapped-gap g gs q) (ungapped-each P gs (e .1))) (λ (q : isGap g ≡ false). rw (ungapped-gate g gs q) (e .0, ungapped-each P gs (e .1)))
     (decide (isGap g))
 
 -- ---- how many stand before a place
@@ -62,23 +62,23 @@ unfolding rank
 rank-start [] = refl
 rank-start (g ∷ gs) = refl
 
-pub rank-all : (gs : List Gate) (p : ℕ) → length gs ≤ p → rank gs p ≡ length (kept gs)
-unfolding kept rank
+pub rank-all : (gs : List Gate) (p : ℕ) → length gs ≤ p → rank gs p ≡ length (ungapped gs)
+unfolding ungapped rank
 rank-all [] p le = refl
 rank-all (g ∷ gs) zero le = absurd (omega arith)
 rank-all (g ∷ gs) (suc p) le = go (isGap g) (rank-all gs p (omega arith))
   where
-    go : (x : Bool) → rank gs p ≡ length (kept gs) → cond x (rank gs p) (suc (rank gs p)) ≡ length (cond x (kept gs) (g ∷ kept gs))
+    go : (x : Bool) → rank gs p ≡ length (ungapped gs) → cond x (rank gs p) (suc (rank gs p)) ≡ length (cond x (ungapped gs) (g ∷ ungapped gs))
     go true h = h
     go false h = ap suc h
 
-pub rank-le : (gs : List Gate) (p : ℕ) → rank gs p ≤ length (kept gs)
-unfolding kept rank
+pub rank-le : (gs : List Gate) (p : ℕ) → rank gs p ≤ length (ungapped gs)
+unfolding ungapped rank
 rank-le [] p = omega arith
 rank-le (g ∷ gs) zero = omega arith
 rank-le (g ∷ gs) (suc p) = go (isGap g) (rank-le gs p)
   where
-    go : (x : Bool) → rank gs p ≤ length (kept gs) → cond x (rank gs p) (suc (rank gs p)) ≤ length (cond x (kept gs) (g ∷ kept gs))
+    go : (x : Bool) → rank gs p ≤ length (ungapped gs) → cond x (rank gs p) (suc (rank gs p)) ≤ length (cond x (ungapped gs) (g ∷ ungapped gs))
     go true h = h
     go false h = omega arith
 
@@ -128,15 +128,15 @@ module _ (gs : List Gate) (p : ℕ) (lt : p < length gs) where
 pub rank-rises : (gs : List Gate) (p q : ℕ) → p < length gs → isGap (gate gs p) ≡ false → p < q → rank gs p < rank gs q
 rank-rises gs p q lt e l = omega (arith, rank-next gs p lt e, rank-mono gs (p + 1) q (omega arith))
 
-pub rank-lt : (gs : List Gate) (p : ℕ) → p < length gs → isGap (gate gs p) ≡ false → rank gs p < length (kept gs)
+pub rank-lt : (gs : List Gate) (p : ℕ) → p < length gs → isGap (gate gs p) ≡ false → rank gs p < length (ungapped gs)
 rank-lt gs p lt e = omega (arith, rank-next gs p lt e, rank-le gs (p + 1))
 
-pub gate-kept : (gs : List Gate) (p : ℕ) → p < length gs → isGap (gate gs p) ≡ false → gate (kept gs) (rank gs p) ≡ gate gs p
-gate-kept [] p lt e = absurd (omega arith)
-gate-kept (g ∷ gs) zero lt e = rw (kept-gate g gs e, rank-zero g gs)
-gate-kept (g ∷ gs) (suc p) lt e =
-    ⊎-elim (λ (q : isGap g ≡ true). rw (kept-gap g gs q, rank-gap g gs p q) (gate-kept gs p (omega arith) e))
-    (λ (q : isGap g ≡ false). rw (kept-gate g gs q, rank-gate g gs p q) (gate-kept gs p (omega arith) e)) (decide (isGap g))
+pub gate-ungapped : (gs : List Gate) (p : ℕ) → p < length gs → isGap (gate gs p) ≡ false → gate (ungapped gs) (rank gs p) ≡ gate gs p
+gate-ungapped [] p lt e = absurd (omega arith)
+gate-ungapped (g ∷ gs) zero lt e = rw (ungapped-gate g gs e, rank-zero g gs)
+gate-ungapped (g ∷ gs) (suc p) lt e =
+    ⊎-elim (λ (q : isGap g ≡ true). rw (ungapped-gap g gs q, rank-gap g gs p q) (gate-ungapped gs p (omega arith) e))
+    (λ (q : isGap g ≡ false). rw (ungapped-gate g gs q, rank-gate g gs p q) (gate-ungapped gs p (omega arith) e)) (decide (isGap g))
 
 -- gate x stands at a place
 pub record Standing (gs : List Gate) (x : ℕ) : Type 0 where
@@ -148,16 +148,16 @@ pub record Standing (gs : List Gate) (x : ℕ) : Type 0 where
 stands-later : (g : Gate) (gs : List Gate) (x y : ℕ) → ((p : ℕ) → rank gs p ≡ x → rank (g ∷ gs) (suc p) ≡ y) → Standing gs x → Standing (g ∷ gs) y
 stands-later g gs x y up w = record { place = suc (w .place); inside = omega (arith, w .inside); real = w .real; is = up (w .place) (w .is) }
 
-pub stands-at : (gs : List Gate) (x : ℕ) → x < length (kept gs) → Standing gs x
-unfolding kept
+pub stands-at : (gs : List Gate) (x : ℕ) → x < length (ungapped gs) → Standing gs x
+unfolding ungapped
 stands-at [] x lt = absurd (omega arith)
 stands-at (g ∷ gs) zero lt =
-    ⊎-elim (λ (q : isGap g ≡ true). stands-later g gs 0 0 (λ p e. rank-gap g gs p q ∙ e) (stands-at gs 0 (rw (kept-gap g gs q) at lt)))
+    ⊎-elim (λ (q : isGap g ≡ true). stands-later g gs 0 0 (λ p e. rank-gap g gs p q ∙ e) (stands-at gs 0 (rw (ungapped-gap g gs q) at lt)))
     (λ (q : isGap g ≡ false). record { place = 0; inside = omega arith; real = q; is = rank-zero g gs }) (decide (isGap g))
 stands-at (g ∷ gs) (suc x) lt =
-    ⊎-elim (λ (q : isGap g ≡ true). stands-later g gs (suc x) (suc x) (λ p e. rank-gap g gs p q ∙ e) (stands-at gs (suc x) (rw (kept-gap g gs q) at lt)))
+    ⊎-elim (λ (q : isGap g ≡ true). stands-later g gs (suc x) (suc x) (λ p e. rank-gap g gs p q ∙ e) (stands-at gs (suc x) (rw (ungapped-gap g gs q) at lt)))
     (λ (q : isGap g ≡ false).
-    let l : suc x < suc (length (kept gs)) = rw (kept-gate g gs q) at lt in
+    let l : suc x < suc (length (ungapped gs)) = rw (ungapped-gate g gs q) at lt in
     stands-later g gs x (suc x) (λ p e. rank-gate g gs p q ∙ ap suc e) (stands-at gs x (omega arith))) (decide (isGap g))
 
 -- ---- a gate is replaced, and a gate goes
@@ -170,23 +170,23 @@ rank-before (h ∷ gs) zero (suc q) g le = absurd (omega arith)
 rank-before (h ∷ gs) (suc p) zero g le = refl
 rank-before (h ∷ gs) (suc p) (suc q) g le = rw (rank-before gs p q g (omega arith))
 
-pub kept-set : (gs : List Gate) (p : ℕ) (g : Gate) → p < length gs → isGap (gate gs p) ≡ false → isGap g ≡ false → kept (set gs p g) ≡ set (kept gs) (rank gs p) g
-kept-set [] p g lt e n = absurd (omega arith)
-kept-set (h ∷ gs) zero g lt e n = rw (kept-gate g gs n, kept-gate h gs e, rank-zero h gs)
-kept-set (h ∷ gs) (suc p) g lt e n =
-    ⊎-elim (λ (q : isGap h ≡ true). rw (kept-gap h (set gs p g) q, kept-gap h gs q, rank-gap h gs p q) (kept-set gs p g (omega arith) e n))
+pub ungapped-set : (gs : List Gate) (p : ℕ) (g : Gate) → p < length gs → isGap (gate gs p) ≡ false → isGap g ≡ false → ungapped (set gs p g) ≡ set (ungapped gs) (rank gs p) g
+ungapped-set [] p g lt e n = absurd (omega arith)
+ungapped-set (h ∷ gs) zero g lt e n = rw (ungapped-gate g gs n, ungapped-gate h gs e, rank-zero h gs)
+ungapped-set (h ∷ gs) (suc p) g lt e n =
+    ⊎-elim (λ (q : isGap h ≡ true). rw (ungapped-gap h (set gs p g) q, ungapped-gap h gs q, rank-gap h gs p q) (ungapped-set gs p g (omega arith) e n))
     (λ (q : isGap h ≡ false).
-    rw (kept-gate h (set gs p g) q, kept-gate h gs q, rank-gate h gs p q) (ap (λ (l : List Gate). h ∷ l) (kept-set gs p g (omega arith) e n)))
+    rw (ungapped-gate h (set gs p g) q, ungapped-gate h gs q, rank-gate h gs p q) (ap (λ (l : List Gate). h ∷ l) (ungapped-set gs p g (omega arith) e n)))
     (decide (isGap h))
 
-pub kept-gone : (gs : List Gate) (p : ℕ) (g : Gate) → p < length gs → isGap (gate gs p) ≡ false → isGap g ≡ true → kept (set gs p g) ≡ without (kept gs) (rank gs p)
+pub ungapped-gone : (gs : List Gate) (p : ℕ) (g : Gate) → p < length gs → isGap (gate gs p) ≡ false → isGap g ≡ true → ungapped (set gs p g) ≡ without (ungapped gs) (rank gs p)
 unfolding without
-kept-gone [] p g lt e n = absurd (omega arith)
-kept-gone (h ∷ gs) zero g lt e n = rw (kept-gap g gs n, kept-gate h gs e, rank-zero h gs)
-kept-gone (h ∷ gs) (suc p) g lt e n =
-    ⊎-elim (λ (q : isGap h ≡ true). rw (kept-gap h (set gs p g) q, kept-gap h gs q, rank-gap h gs p q) (kept-gone gs p g (omega arith) e n))
+ungapped-gone [] p g lt e n = absurd (omega arith)
+ungapped-gone (h ∷ gs) zero g lt e n = rw (ungapped-gap g gs n, ungapped-gate h gs e, rank-zero h gs)
+ungapped-gone (h ∷ gs) (suc p) g lt e n =
+    ⊎-elim (λ (q : isGap h ≡ true). rw (ungapped-gap h (set gs p g) q, ungapped-gap h gs q, rank-gap h gs p q) (ungapped-gone gs p g (omega arith) e n))
     (λ (q : isGap h ≡ false).
-    rw (kept-gate h (set gs p g) q, kept-gate h gs q, rank-gate h gs p q) (ap (λ (l : List Gate). h ∷ l) (kept-gone gs p g (omega arith) e n)))
+    rw (ungapped-gate h (set gs p g) q, ungapped-gate h gs q, rank-gate h gs p q) (ap (λ (l : List Gate). h ∷ l) (ungapped-gone gs p g (omega arith) e n)))
     (decide (isGap h))
 
 pub gate-real : (g : Gate) → IsGate 6 g → isGap g ≡ false
@@ -210,11 +210,11 @@ gap-free (suc (suc (suc (suc (suc (suc t)))))) lt = absurd (omega arith)
 
 pub gap-passed : (g : Gate) → IsGate 6 g → mayChange g gap ≡ true
 unfolding mayChange clashes blocks upsets isC
-gap-passed g ok = rw (not-six (g .target) (ok .on-line), gap-free (g .target) (ok .on-line)) (none (not (eqb (control g 6) 3)))
+gap-passed g ok = rw (not-six (g .target) (ok .on-line), gap-free (g .target) (ok .on-line)) (never (not (eqb (control g 6) 3)))
   where
-    none : (x : Bool) → not (x && false) ≡ true
-    none true = refl
-    none false = refl
+    never : (x : Bool) → not (x && false) ≡ true
+    never true = refl
+    never false = refl
 
 pub gap-unfit : (g : Gate) → IsGate 6 g → fits g gap ≡ false
 unfolding fits cancels merges reduces sameLines

@@ -1,5 +1,8 @@
 pub mod Gaps
 pub mod Buffers
-pub mod Rows
+pub mod Clearances
+pub mod Reaches
+pub mod Looks
+pub mod RowPairs
 pub mod Words
 pub mod Stretches

@@ -1,5 +1,5 @@
--- Views: a gate that meets nothing of the views and the kinds of many gates is quiet with each of them (`passed-next`), and what is known of stretches stays true
--- where a gate is replaced. What is finite is computed. Assumes nothing.
+-- Views: a gate that meets nothing of the views and the kinds of many gates is quiet with each of them (`passed-next`), and what is known of
+-- stretches stays true where a gate is replaced. What is finite is computed. Assumes nothing.
 use mathlib.Core.Path.{_≡_, refl, sym, ap, ap₂, _∙_}
 use mathlib.Core.Logic.{⊎-elim}
 use mathlib.Core.Bool.{Bool, true, false, cond, not, _&&_}
@@ -26,7 +26,7 @@ use Rattle.digits.proofs.Packs.{pack-ext, pack-digits, pack-lt, free-there, fre
 use Rattle.digits.proofs.Bits.{digit-and, digit-of-zero, or-meets}
 use Rattle.gates.specs.declared.Gate.{Gate}
 use Rattle.gates.specs.Gates.{control, IsGate}
-use Rattle.gates.specs.Inner.Words.{byte, gateOf, Low, controlMarks, otherMarks}
+use Rattle.gates.specs.Inner.Words.{byte, gateOf, LowControls, controlMarks, otherMarks}
 use Rattle.gates.proofs.Bytes.{byte-one, byte-high, operator-word, target-word}
 use Rattle.gates.proofs.Marks.{control-word}
 use Rattle.rules.specs.Places.{isC, sameType, upsets, blocks, clashes, mayChange}
@@ -34,9 +34,10 @@ use Rattle.rules.specs.Rules.{sameLines, fits}
 use Rattle.rules.specs.Tidying.{gate}
 use Rattle.rules.proofs.Rules.{both-or-none}
 use Rattle.rules.proofs.FittingPairs.{type-swap, one-passes, lines-on, fits-passes}
-use Rattle.remembering.specs.Buffers.{isGap, Stands}
-use Rattle.remembering.specs.Rows.{Quiet, Clear}
-use Rattle.remembering.specs.Views.{typeOf, upsetters, shunned, ownPart, viewOf, otherPart, againstOf, sixBits, kindOf, allKinds, Seen, Passed, Marked}
+use Rattle.remembering.specs.declared.views.Sets.{Sets}
+use Rattle.remembering.specs.Inner.Buffers.{isGap, GateOrGap}
+use Rattle.remembering.specs.Inner.Rows.{Quiet, Clear}
+use Rattle.remembering.specs.Inner.Views.{typeOf, upsetters, shunned, ownPart, viewOf, otherPart, againstOf, sixBits, kindOf, allKinds, SeenAs, StretchPassed, StretchesMarked}
 use Rattle.remembering.proofs.Gaps.{gate-real, gap-passed, gap-unfit}
 
 -- ---- the bytes of a view
@@ -104,14 +105,14 @@ module _ (g : Gate) (ok : IsGate 6 g) where
 
 -- ---- what two bytes that do not meet say
 
-types-test : ℕ → ℕ → Bool
-types-test a b = cond (eqb (bitAnd (ownPart b) (otherPart a)) 0) (sameType a b) true
+apart-types : ℕ → ℕ → Bool
+apart-types a b = cond (eqb (bitAnd (ownPart b) (otherPart a)) 0) (sameType a b) true
 
 bytes-types : (a b : ℕ) → 0 < a → a < 6 → 0 < b → b < 6 → bitAnd (ownPart b) (otherPart a) ≡ 0 → sameType a b ≡ true
-unfolding types-test every typeOf ownPart otherPart sameType isC
+unfolding apart-types every typeOf ownPart otherPart sameType isC
 bytes-types (suc a) (suc b) pa la pb lb e =
     if-so (eqb (bitAnd (ownPart (suc b)) (otherPart (suc a))) 0) (sameType (suc a) (suc b))
-    (every-below (λ b. types-test (suc a) (suc b)) 5 (every-below (λ a. every (λ b. types-test (suc a) (suc b)) 0 5) 5 refl a (omega arith)) b (omega arith)) (eq-eqb _ _ e)
+    (every-below (λ b. apart-types (suc a) (suc b)) 5 (every-below (λ a. every (λ b. apart-types (suc a) (suc b)) 0 5) 5 refl a (omega arith)) b (omega arith)) (eq-eqb _ _ e)
 bytes-types zero b pa la pb lb e = absurd (omega arith)
 bytes-types (suc a) zero pa la pb lb e = absurd (omega arith)
 
@@ -134,7 +135,7 @@ bytes-back = upset-by (λ o c. bitAnd (ownPart o) (16 * upsetters c)) refl
 -- ---- a gate that does not pass
 
 -- a gate that a gate cannot pass does not fit it
-pub shut-unfit : (g h : Gate) → IsGate 6 g → Stands h → mayChange g h ≡ false → fits g h ≡ false
+pub shut-unfit : (g h : Gate) → IsGate 6 g → GateOrGap h → mayChange g h ≡ false → fits g h ≡ false
 shut-unfit g h okg stands shut =
     ⊎-elim
     (λ (q : fits g h ≡ true).
@@ -194,29 +195,29 @@ module _ (g h : Gate) (okg : IsGate 6 g) (okh : IsGate 6 h) where
       rw (gate-real g okg, gate-real h okh) (ap (λ (a : ℕ). 2 ^ sixBits a) (pack-ext 256 _ _ 6 (λ k l. ap (λ (b : Bool). cond b 0 1) (sym (both-or-none g h same k l)))))
 
 -- the bit of a kind
-kind-bit : (n : ℕ) → n < 64 → (0 < 2 ^ n) × (2 ^ n < 18446744073709551616)
+kind-bit : (n : ℕ) → n < 64 → (0 < 2 ^ n) × (2 ^ n < 0x1_0000_0000_0000_0000)
 unfolding every
-kind-bit n lt = (ltb-true _ _ (every-below (λ n. ltb 0 (2 ^ n)) 64 refl n lt), ltb-true _ _ (every-below (λ n. ltb (2 ^ n) 18446744073709551616) 64 refl n lt))
+kind-bit n lt = (ltb-true _ _ (every-below (λ n. ltb 0 (2 ^ n)) 64 refl n lt), ltb-true _ _ (every-below (λ n. ltb (2 ^ n) 0x1_0000_0000_0000_0000) 64 refl n lt))
 
 -- and as it is shifted
-pub shifted-bit : (n : ℕ) → n < 64 → (1 * 2 ^ n) % 18446744073709551616 ≡ 2 ^ n
+pub shifted-bit : (n : ℕ) → n < 64 → (1 * 2 ^ n) % 0x1_0000_0000_0000_0000 ≡ 2 ^ n
 unfolding every
-shifted-bit n lt = eqb-true _ _ (every-below (λ n. eqb ((1 * 2 ^ n) % 18446744073709551616) (2 ^ n)) 64 refl n lt)
+shifted-bit n lt = eqb-true _ _ (every-below (λ n. eqb ((1 * 2 ^ n) % 0x1_0000_0000_0000_0000) (2 ^ n)) 64 refl n lt)
 
 pub six-bits-lt : (a : ℕ) → sixBits a < 64
 unfolding sixBits
 six-bits-lt a = omega arith
 
-kind-some : (g : Gate) → IsGate 6 g → (0 < kindOf g) × (kindOf g < 18446744073709551616)
+kind-some : (g : Gate) → IsGate 6 g → (0 < kindOf g) × (kindOf g < 0x1_0000_0000_0000_0000)
 unfolding kindOf
 kind-some g ok = rw (gate-real g ok) (kind-bit _ (six-bits-lt _))
 
 -- gates of one kind meet
 kinds-meet : (g h : Gate) → IsGate 6 g → kindOf h ≡ kindOf g → bitAnd (kindOf h) (kindOf g) ≡ 0 → ⊥
-kinds-meet g h okg same other = none (kind-some g okg .0) (sym (and-self (kindOf g)) ∙ ap (λ (x : ℕ). bitAnd x (kindOf g)) (sym same) ∙ other)
+kinds-meet g h okg same other = some-kind (kind-some g okg .0) (sym (and-self (kindOf g)) ∙ ap (λ (x : ℕ). bitAnd x (kindOf g)) (sym same) ∙ other)
   where
-    none : 0 < kindOf g → kindOf g ≡ 0 → ⊥
-    none pos e = omega arith
+    some-kind : 0 < kindOf g → kindOf g ≡ 0 → ⊥
+    some-kind pos e = omega arith
 
 module _ (g h : Gate) (okg : IsGate 6 g) (apart : bitAnd (viewOf h) (againstOf g) ≡ 0) (other : bitAnd (kindOf h) (kindOf g) ≡ 0) where
   quiet-there : IsGate 6 h → Quiet g h
@@ -233,7 +234,7 @@ module _ (g h : Gate) (okg : IsGate 6 g) (apart : bitAnd (viewOf h) (againstOf g
         pass = seen-passes g h okg okh apart .1;
       }
 
-  quiet-seen : Stands h → Quiet g h × (isGap h ≡ false → Quiet h g)
+  quiet-seen : GateOrGap h → Quiet g h × (isGap h ≡ false → Quiet h g)
   quiet-seen stands = (
     ⊎-elim (λ (e : isGap h ≡ true). rw (stands .blank e) (record { unfit = gap-unfit g okg; pass = gap-passed g okg })) (λ (e : isGap h ≡ false). quiet-there (stands .real e))
         (decide (isGap h)),
@@ -242,10 +243,10 @@ module _ (g h : Gate) (okg : IsGate 6 g) (apart : bitAnd (viewOf h) (againstOf g
 
 -- ---- stretches
 
-pub passed-start : (gs : List Gate) (x : ℕ) → Passed gs x x 0 0
+pub passed-start : (gs : List Gate) (x : ℕ) → StretchPassed gs x x 0 0
 passed-start gs x = record { quiet = λ g ok a b l c d. absurd (omega arith) }
 
-pub passed-next : (gs : List Gate) (x e u v : ℕ) → Each Stands gs → e < length gs → Passed gs x e u v → Passed gs x (e + 1) (bitOr u (viewOf (gate gs e))) (bitOr v (kindOf (gate gs e)))
+pub passed-next : (gs : List Gate) (x e u v : ℕ) → Each GateOrGap gs → e < length gs → StretchPassed gs x e u v → StretchPassed gs x (e + 1) (bitOr u (viewOf (gate gs e))) (bitOr v (kindOf (gate gs e)))
 passed-next gs x e u v ok lt w = record { quiet = λ g okg a b l c d. go g okg (parts (againstOf g) u (viewOf (gate gs e)) a) (parts (kindOf g) v (kindOf (gate gs e)) b) l c d (ℕ-discrete l e) }
   where
     parts : (x u w : ℕ) → bitAnd x (bitOr u w) ≡ 0 → (bitAnd x u ≡ 0) × (bitAnd w x ≡ 0)
@@ -253,25 +254,25 @@ passed-next gs x e u v ok lt w = record { quiet = λ g okg a b l c d. go g okg (
 
     go : (g : Gate) → IsGate 6 g → (bitAnd (againstOf g) u ≡ 0) × (bitAnd (viewOf (gate gs e)) (againstOf g) ≡ 0) → (bitAnd (kindOf g) v ≡ 0) × (bitAnd (kindOf (gate gs e)) (kindOf g) ≡ 0)
         → (l : ℕ) → x ≤ l → l < e + 1 → Dec (l ≡ e) → Quiet g (gate gs l) × (isGap (gate gs l) ≡ false → Quiet (gate gs l) g)
-    go g okg a b l c d (yes q) = rw q (quiet-seen g (gate gs e) okg (a .1) (b .1) (each-at Stands gs _ ok e lt))
+    go g okg a b l c d (yes q) = rw q (quiet-seen g (gate gs e) okg (a .1) (b .1) (each-at GateOrGap gs _ ok e lt))
     go g okg a b l c d (no ne) = w .quiet g okg (a .0) (b .0) l c (omega arith)
 
 -- the gates of a stretch are quiet with what meets nothing of it, and with a gap
-pub quiet-rows : (gs : List Gate) (x e u v : ℕ) (g : Gate) (sets kind : ℕ) → Passed gs x e u v → Each Stands gs → Stands g → Seen g sets kind → bitAnd sets u ≡ 0 → bitAnd kind v ≡ 0
+pub quiet-rows : (gs : List Gate) (x e u v : ℕ) (g : Gate) (seen : Sets) → StretchPassed gs x e u v → Each GateOrGap gs → GateOrGap g → SeenAs g seen → bitAnd (seen .types) u ≡ 0 → bitAnd (seen .kinds) v ≡ 0
     → (l : ℕ) → x ≤ l → l < e → l < length gs → isGap (gate gs l) ≡ false → Quiet (gate gs l) g
-quiet-rows gs x e u v g sets kind w ok stands seen a b l c d inside real =
-    let okl : IsGate 6 (gate gs l) = each-at Stands gs _ ok l inside .real real in
+quiet-rows gs x e u v g seen w ok stands is a b l c d inside real =
+    let okl : IsGate 6 (gate gs l) = each-at GateOrGap gs _ ok l inside .real real in
     ⊎-elim (λ (q : isGap g ≡ true). rw (stands .blank q) (record { unfit = gap-unfit (gate gs l) okl; pass = gap-passed (gate gs l) okl }))
-    (λ (q : isGap g ≡ false). w .quiet g (stands .real q) (rw (← seen q .0) a) (rw (← seen q .1) b) l c d .1 real) (decide (isGap g))
+    (λ (q : isGap g ≡ false). w .quiet g (stands .real q) (rw (← is q .0) a) (rw (← is q .1) b) l c d .1 real) (decide (isGap g))
 
 -- every gate is of a kind, so that nothing is said where all kinds are there
-some-rest : (n : ℕ) → 0 < n → n < 18446744073709551616 → n % 18446744073709551616 ≡ 0 → ⊥
+some-rest : (n : ℕ) → 0 < n → n < 0x1_0000_0000_0000_0000 → n % 0x1_0000_0000_0000_0000 ≡ 0 → ⊥
 some-rest n pos lt e = omega arith
 
-pub passed-all : (gs : List Gate) (x e u : ℕ) → Passed gs x e u allKinds
+pub passed-all : (gs : List Gate) (x e u : ℕ) → StretchPassed gs x e u allKinds
 passed-all gs x e u = record { quiet = λ g ok a b l c d. absurd (some-rest (kindOf g) (kind-some g ok .0) (kind-some g ok .1) (sym (and-mask (kindOf g) 64) ∙ b)) }
 
-pub marked-start : (gs : List Gate) (marks : List ℕ) → length gs + 16 ≤ 8 * length marks → marks ≡ replicate (length marks) allKinds → Marked gs marks
+pub marked-start : (gs : List Gate) (marks : List ℕ) → length gs + 16 ≤ 8 * length marks → marks ≡ replicate (length marks) allKinds → StretchesMarked gs marks
 marked-start gs marks room e =
     record {
       room = room;
@@ -279,7 +280,7 @@ marked-start gs marks room e =
     }
 
 -- gate p is replaced, and its stretch forgotten
-pub marked-set : (gs : List Gate) (marks : List ℕ) (p : ℕ) (g : Gate) → p < length gs → Marked gs marks → Marked (set gs p g) (set marks (2 * (p / 16) + 1) allKinds)
+pub marked-set : (gs : List Gate) (marks : List ℕ) (p : ℕ) (g : Gate) → p < length gs → StretchesMarked gs marks → StretchesMarked (set gs p g) (set marks (2 * (p / 16) + 1) allKinds)
 marked-set gs marks p g lt w =
     record {
       room = rw (length-set gs p g, length-set marks (2 * (p / 16) + 1) allKinds) (w .room);
@@ -287,7 +288,7 @@ marked-set gs marks p g lt w =
     }
   where
     go : (s : ℕ) → 16 * s + 16 ≤ length gs → Dec (s ≡ p / 16)
-        → Passed (set gs p g) (16 * s) (16 * s + 16) (getD (set marks (2 * (p / 16) + 1) allKinds) (2 * s) 0) (getD (set marks (2 * (p / 16) + 1) allKinds) (2 * s + 1) 0)
+        → StretchPassed (set gs p g) (16 * s) (16 * s + 16) (getD (set marks (2 * (p / 16) + 1) allKinds) (2 * s) 0) (getD (set marks (2 * (p / 16) + 1) allKinds) (2 * s + 1) 0)
     go s l (yes e) =
         rw (e, getD-set-same marks (2 * (p / 16) + 1) allKinds 0 (omega (arith, w .room))) (passed-all (set gs p g) (16 * (p / 16)) (16 * (p / 16) + 16) _)
     go s l (no ne) =
@@ -295,8 +296,8 @@ marked-set gs marks p g lt w =
         (record { quiet = λ h ok a b k c d. rw (getD-set-other gs p k g _ (λ e. ne (omega arith))) (w .each s l .quiet h ok a b k c d) })
 
 -- stretch s is looked at
-pub marked-look : (gs : List Gate) (marks : List ℕ) (s u v : ℕ) → 16 * s + 16 ≤ length gs → Marked gs marks → Passed gs (16 * s) (16 * s + 16) u v
-    → Marked gs (set (set marks (2 * s) u) (2 * s + 1) v)
+pub marked-look : (gs : List Gate) (marks : List ℕ) (s u v : ℕ) → 16 * s + 16 ≤ length gs → StretchesMarked gs marks → StretchPassed gs (16 * s) (16 * s + 16) u v
+    → StretchesMarked gs (set (set marks (2 * s) u) (2 * s + 1) v)
 marked-look gs marks s u v inside w here =
     record { room = rw (length-set (set marks (2 * s) u) (2 * s + 1) v, length-set marks (2 * s) u) (w .room); each = λ q l. go q l (ℕ-discrete q s) }
   where
@@ -310,16 +311,16 @@ marked-look gs marks s u v inside w here =
     else-where k a b = getD-set-other (set marks (2 * s) u) (2 * s + 1) k v 0 b ∙ getD-set-other marks (2 * s) k u 0 a
 
     go : (q : ℕ) → 16 * q + 16 ≤ length gs → Dec (q ≡ s)
-        → Passed gs (16 * q) (16 * q + 16) (getD (set (set marks (2 * s) u) (2 * s + 1) v) (2 * q) 0) (getD (set (set marks (2 * s) u) (2 * s + 1) v) (2 * q + 1) 0)
+        → StretchPassed gs (16 * q) (16 * q + 16) (getD (set (set marks (2 * s) u) (2 * s + 1) v) (2 * q) 0) (getD (set (set marks (2 * s) u) (2 * s + 1) v) (2 * q + 1) 0)
     go q l (yes e) = rw (e, first, second) here
     go q l (no ne) = rw (else-where (2 * q) (λ e. ne (omega arith)) (λ e. omega arith), else-where (2 * q + 1) (λ e. omega arith) (λ e. ne (omega arith))) (w .each q l)
 
 -- row i passes stretch s
-pub clear-stretch : (gs : List Gate) (i s u v : ℕ) → Clear gs i (16 * s) → 16 * s + 16 ≤ length gs → IsGate 6 (gate gs i) → Passed gs (16 * s) (16 * s + 16) u v
+pub clear-stretch : (gs : List Gate) (i s u v : ℕ) → Clear gs i (16 * s) → 16 * s + 16 ≤ length gs → IsGate 6 (gate gs i) → StretchPassed gs (16 * s) (16 * s + 16) u v
     → bitAnd (againstOf (gate gs i)) u ≡ 0 → bitAnd (kindOf (gate gs i)) v ≡ 0 → Clear gs i (16 * (s + 1))
 clear-stretch gs i s u v w inside ok here a b =
     record {
-      order = omega (arith, w .order);
+      past = omega (arith, w .past);
       inside = omega arith;
       quiet = λ l c d. by-place (Quiet (gate gs i) (gate gs l)) (16 * s) l (λ e. w .quiet l c e) (λ e. here .quiet (gate gs i) ok a b l e (omega arith) .0);
     }
@@ -330,12 +331,12 @@ line-sum : (c : ℕ) → c < 4 → 12 * cond (eqb c 3) 0 1 + 4 * cond (eqb c 0) 
 unfolding upsetters every
 line-sum c lt = eqb-true _ _ (every-below (λ c. eqb (12 * cond (eqb c 3) 0 1 + 4 * cond (eqb c 0) 0 1) (upsetters c + c + 1)) 4 refl c lt)
 
-lines-sum : (a z u f : ℕ → ℕ) → ((k : ℕ) → k < 6 → 12 * a k + 4 * z k ≡ u k + f k + 1) → 12 * pack 256 a 6 + 4 * pack 256 z 6 ≡ pack 256 u 6 + pack 256 f 6 + 1103823438081
+lines-sum : (a z u f : ℕ → ℕ) → ((k : ℕ) → k < 6 → 12 * a k + 4 * z k ≡ u k + f k + 1) → 12 * pack 256 a 6 + 4 * pack 256 z 6 ≡ pack 256 u 6 + pack 256 f 6 + 0x0101_0101_0101
 unfolding pack sum
 lines-sum a z u f each =
     omega (arith, each 0 (omega arith), each 1 (omega arith), each 2 (omega arith), each 3 (omega arith), each 4 (omega arith), each 5 (omega arith))
 
-module _ (w : ℕ) (low : Low w) where
+module _ (w : ℕ) (low : LowControls w) where
   gap-word : isGap (gateOf w) ≡ eqb (w % 256) 0
   unfolding isGap gateOf
   gap-word = ap (λ (x : ℕ). eqb x 0) (digit-zero 256 w)
@@ -352,15 +353,15 @@ module _ (w : ℕ) (low : Low w) where
   unfolding kindOf
   kind-word ne = rw (gap-word ∙ ne-eqb (w % 256) 0 ne, marks-word) refl
 
-module _ (w : ℕ) (small : w < 256 ^ 8) (low : Low w) where
+module _ (w : ℕ) (small : w < 256 ^ 8) (low : LowControls w) where
   shunned-word : shunned (gateOf w) ≡ pack 256 (λ k. upsetters (byte (2 + k) w)) 6
   unfolding shunned
   shunned-word = pack-ext 256 _ _ 6 (λ k l. ap upsetters (control-word w low k l))
 
-  high-bytes : pack 256 (λ k. byte (2 + k) w) 6 ≡ w / 65536
-  high-bytes = pack-ext 256 _ _ 6 (λ k l. sym (byte-high k w)) ∙ pack-digits 256 6 (w / 65536) (omega arith) (omega arith)
+  high-bytes : pack 256 (λ k. byte (2 + k) w) 6 ≡ w / 0x1_0000
+  high-bytes = pack-ext 256 _ _ 6 (λ k l. sym (byte-high k w)) ∙ pack-digits 256 6 (w / 0x1_0000) (omega arith) (omega arith)
 
-  pub shun-sum : 12 * controlMarks w + 4 * otherMarks w 0 ≡ shunned (gateOf w) + w / 65536 + 1103823438081
+  pub shun-sum : 12 * controlMarks w + 4 * otherMarks w 0 ≡ shunned (gateOf w) + w / 0x1_0000 + 0x0101_0101_0101
   unfolding controlMarks otherMarks
   shun-sum =
       rw (shunned-word, ← high-bytes)
@@ -379,5 +380,5 @@ module _ (w : ℕ) (small : w < 256 ^ 8) (low : Low w) where
   against-word = ap₂ (λ (o t : ℕ). 16 * shunned (gateOf w) + otherPart o * 256 ^ t) (sym (operator-word w)) (sym (target-word w))
 
 -- a byte at the place of a line, or of a gap's target
-pub part-most : (d w : ℕ) → d < 256 → w / 256 % 256 ≤ 6 → d * 256 ^ (w / 256 % 256) ≤ 71776119061217280
+pub part-most : (d w : ℕ) → d < 256 → w / 256 % 256 ≤ 6 → d * 256 ^ (w / 256 % 256) ≤ 0xff_0000_0000_0000
 part-most d w lt le = le-trans (mul-le-mul-left d (pow-le-pow-right {n = 256} (omega arith) {i = w / 256 % 256} {j = 6} le)) (omega arith)

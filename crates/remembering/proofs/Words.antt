@@ -14,10 +14,10 @@ use Rattle.gates.specs.Gates.{control}
 use Rattle.gates.specs.Records.{recordOf}
 use Rattle.gates.specs.Inner.Words.{byte, Word, bytesIn, gateOf, GateWord}
 use Rattle.gates.proofs.Bytes.{byte-in, byte-one, length-word}
-use Rattle.remembering.specs.Buffers.{Stands, Moved}
+use Rattle.remembering.specs.Inner.Buffers.{GateOrGap, RecordMoved}
 
 -- record p, read and stored at place q
-pub moved-word : (s : List ℕ) (p q w : ℕ) → 8 * q + 8 ≤ length s → Word s (8 * p) w → Moved s (sets s (8 * q) (bytesIn w)) p q
+pub moved-word : (s : List ℕ) (p q w : ℕ) → 8 * q + 8 ≤ length s → Word s (8 * p) w → RecordMoved s (sets s (8 * q) (bytesIn w)) p q
 moved-word s p q w room read =
     record {
       len = length-sets s (8 * q) (bytesIn w);
@@ -28,7 +28,7 @@ moved-word s p q w room read =
 
 -- ---- the number of a gate
 
-module _ (w : ℕ) (g : Gate) (is : bytesIn w ≡ recordOf g) (ok : Stands g) where
+module _ (w : ℕ) (g : Gate) (is : bytesIn w ≡ recordOf g) (ok : GateOrGap g) where
   byte-is : (k : ℕ) → k < 8 → byte k w ≡ getD (recordOf g) k 0
   byte-is k l = sym (byte-in w k l) ∙ ap (λ (s : List ℕ). getD s k 0) is
 

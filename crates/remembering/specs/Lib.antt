@@ -1,3 +1,1 @@
-pub mod Buffers
-pub mod Rows
-pub mod Views
+pub mod Inner

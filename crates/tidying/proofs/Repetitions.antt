@@ -15,17 +15,18 @@ use Rattle.ranges.proofs.Lists.{each-imp}
 use Rattle.gates.specs.declared.Gate.{Gate}
 use Rattle.gates.specs.Gates.{IsGate}
 use Rattle.cascades.specs.Cascades.{records, gatesOf, bytesOf}
-use Rattle.rules.specs.Tidying.{firstJ, firstI, ruled, untidy, step, Outcome, gatesAndControls, tidied}
+use Rattle.cascades.proofs.Cascades.{gates-count}
+use Rattle.rules.specs.Tidying.{firstJ, firstI, ruled, untidy, step, Outcome, size, tidied}
 use Rattle.rules.proofs.Weights.{control-count-le}
 use Rattle.rules.proofs.TidySteps.{stepped-gates-and-controls, step-stepped}
 use Rattle.rules.proofs.Endings.{afterSteps, after-none, after-one-more, one-answer, tidied-procedure}
-use Rattle.remembering.specs.Buffers.{gatesIn, isGap, kept, rank, Holds}
-use Rattle.remembering.specs.Rows.{Reached}
-use Rattle.remembering.specs.Views.{Marked}
-use Rattle.remembering.proofs.Gaps.{kept-all, rank-lt, rank-all, gate-real}
+use Rattle.remembering.specs.Inner.Buffers.{gatesIn, isGap, ungapped, rank, BufferHolds}
+use Rattle.remembering.specs.Inner.Rows.{ReachBounds}
+use Rattle.remembering.specs.Inner.Views.{StretchesMarked}
+use Rattle.remembering.proofs.Gaps.{ungapped-all, rank-lt, rank-all, gate-real}
 use Rattle.remembering.proofs.Buffers.{length-gates, holds-list, holds-bytes}
-use Rattle.remembering.proofs.Rows.{known-start}
-use Rattle.tidying.specs.Searches.{Remembers, TidiedIn, PairAt}
+use Rattle.remembering.proofs.Clearances.{known-start}
+use Rattle.tidying.specs.Inner.Searches.{GateRecords, Remembers, TidiedIn, PairAt}
 use Rattle.tidying.proofs.Firsts.{First, first-at}
 
 -- a list of m gates has at most 7 m gates and controls
@@ -53,46 +54,51 @@ module _ (gs : List Gate) (i j : ℕ) (f : First gs i j) where
 -- ---- the loop
 
 -- after k steps on the gates gs the buffer holds them with gaps, and what is remembered is true
-pub record Going (gs : List Gate) (b far reach marks : List ℕ) (m x k : ℕ) : Type 0 where
-  pub memory : Remembers b far reach marks m x
-  pub list : kept (gatesIn b m) ≡ afterSteps k gs
+pub record Stepping (gs : List Gate) (b far reach marks : List ℕ) (m x k : ℕ) : Type 0 where
+  pub remembers : Remembers b far reach marks m x
+  pub list : ungapped (gatesIn b m) ≡ afterSteps k gs
   pub used : (q : ℕ) → q < k → untidy (afterSteps q gs) ≡ true
   pub spent : k + gatesAndControls (afterSteps k gs) ≤ gatesAndControls gs
 
-pub going-start : (gs : List Gate) (b far reach marks : List ℕ) (m : ℕ) → length gs ≡ m → Each (IsGate 6) gs → Holds b gs → m ≤ 8000 → m + 16 ≤ length far
-    → Reached (span (λ r. r + 1) 0 m ++ drop m far) reach m → Marked (gatesIn b m) marks → Going gs b (span (λ r. r + 1) 0 m ++ drop m far) reach marks m 0 0
-going-start gs b far reach marks m e ok h most room reached marked =
-    let same : gatesIn b m ≡ gs = holds-list b gs m h e in
-    let real : Each (λ g. isGap g ≡ false) gs = each-imp (IsGate 6) (λ g. isGap g ≡ false) gate-real gs ok in
+pub stepping-start : (b far reach marks : List ℕ) (m : ℕ) → GateRecords b m → m + 16 ≤ length far → ReachBounds (span (λ r. r + 1) 0 m ++ drop m far) reach m
+    → StretchesMarked (gatesIn b m) marks → Stepping (gatesOf b) b (span (λ r. r + 1) 0 m ++ drop m far) reach marks m 0 0
+stepping-start b far reach marks m ok room bounds marked =
+    let count : length (gatesOf b) ≡ m = gates-count b ∙ omega (arith, ok .size) in
+    let same : gatesIn b m ≡ gatesOf b = holds-list b (gatesOf b) m (ok .holds) count in
+    let real : Each (λ g. isGap g ≡ false) (gatesOf b) = each-imp (IsGate 6) (λ g. isGap g ≡ false) gate-real (gatesOf b) (ok .gates) in
     record {
-      memory =
+      remembers =
           record {
-            most = most;
-            within = omega arith;
-            holds = rw same h;
-            known = rw same (known-start gs m far e most room real);
-            low = λ r l. absurd (omega arith);
-            reached = reached;
-            marked = marked;
+            holds = rw same (ok .holds);
+            memory =
+                record {
+                  count = length-gates b m;
+                  few = ok .few;
+                  within = omega arith;
+                  known = rw same (known-start (gatesOf b) m far count (ok .few) room real);
+                  no-pair = λ r l. absurd (omega arith);
+                  bounds = bounds;
+                  marked = marked;
+                };
           };
-      list = ap kept same ∙ kept-all gs real ∙ sym (after-none gs);
+      list = ap ungapped same ∙ ungapped-all (gatesOf b) real ∙ sym (after-none (gatesOf b));
       used = λ q lt. absurd (omega arith);
-      spent = rw (after-none gs) (omega arith);
+      spent = rw (after-none (gatesOf b)) (omega arith);
     }
 
-module _ (gs : List Gate) (b far reach marks : List ℕ) (m x k : ℕ) (w : Going gs b far reach marks m x k) where
+module _ (gs : List Gate) (b far reach marks : List ℕ) (m x k : ℕ) (w : Stepping gs b far reach marks m x k) where
   -- a pair that the search found is the first of the gates
   module _ (far′ reach′ marks′ : List ℕ) (i j : ℕ) (v : Remembers b far′ reach′ marks′ m i) (f : PairAt (gatesIn b m) i j) where
     first : First (afterSteps k gs) (rank (gatesIn b m) i) (rank (gatesIn b m) j)
     first =
         subst (λ (l : List Gate). First l (rank (gatesIn b m) i) (rank (gatesIn b m) j)) (w .list)
-        (first-at (gatesIn b m) (v .holds .gates) far′ i j (v .known) (v .low) f)
+        (first-at (gatesIn b m) (v .holds .gates) far′ i j (v .memory .known) (v .memory .no-pair) f)
 
-    pub going-next : i < m → (b″ far″ reach″ marks″ : List ℕ) (y : ℕ) → Remembers b″ far″ reach″ marks″ m y
-        → kept (gatesIn b″ m) ≡ ruled (kept (gatesIn b m)) (rank (gatesIn b m) i) (rank (gatesIn b m) j) → Going gs b″ far″ reach″ marks″ m y (k + 1)
-    going-next lt b″ far″ reach″ marks″ y u e =
+    pub stepping-next : i < m → (b″ far″ reach″ marks″ : List ℕ) (y : ℕ) → Remembers b″ far″ reach″ marks″ m y
+        → ungapped (gatesIn b″ m) ≡ ruled (ungapped (gatesIn b m)) (rank (gatesIn b m) i) (rank (gatesIn b m) j) → Stepping gs b″ far″ reach″ marks″ m y (k + 1)
+    stepping-next lt b″ far″ reach″ marks″ y u e =
         record {
-          memory = u;
+          remembers = u;
           list = e ∙ ap (λ (l : List Gate). ruled l (rank (gatesIn b m) i) (rank (gatesIn b m) j)) (w .list) ∙ sym more;
           used = λ q l. ⊎-elim (λ (p : q ≡ k). rw p some) (λ (p : q < k). w .used q p) (here-or-later (omega arith));
           spent = omega (arith, w .spent, ap gatesAndControls (after-one-more k gs), stepped-gates-and-controls (step-stepped (afterSteps k gs) some));
@@ -110,9 +116,9 @@ module _ (gs : List Gate) (b far reach marks : List ℕ) (m x k : ℕ) (w : Goin
         more : afterSteps (k + 1) gs ≡ ruled (afterSteps k gs) (rank (gatesIn b m) i) (rank (gatesIn b m) j)
         more = after-one-more k gs ∙ sym (pair-step (afterSteps k gs) (rank (gatesIn b m) i) (rank (gatesIn b m) j) first inside)
 
-    going-end : m ≤ i → record { left = kept (gatesIn b m); steps = k } ≡ tidied gs
-    going-end le =
-        one-answer gs (record { left = kept (gatesIn b m); steps = k }) (tidied gs)
+    stepping-end : m ≤ i → record { left = ungapped (gatesIn b m); steps = k } ≡ tidied gs
+    stepping-end le =
+        one-answer gs (record { left = ungapped (gatesIn b m); steps = k }) (tidied gs)
         (record {
           left-is = w .list;
           used = w .used;
@@ -125,13 +131,13 @@ module _ (gs : List Gate) (b far reach marks : List ℕ) (m x k : ℕ) (w : Goin
         end = rw (← w .list) (omega (arith, rank-all (gatesIn b m) i (rw (length-gates b m) le)))
 
     -- the buffer afterwards, its gaps closed and its freed records cleared
-    pub going-done : (s c t : List ℕ) (left : ℕ) → gs ≡ gatesOf s → length s ≡ 8 * m → length c ≡ length s → m ≤ i → Holds c (kept (gatesIn b m)) → left ≡ length (kept (gatesIn b m))
+    pub stepping-done : (s c t : List ℕ) (left : ℕ) → gs ≡ gatesOf s → length s ≡ 8 * m → length c ≡ length s → m ≤ i → BufferHolds c (ungapped (gatesIn b m)) → left ≡ length (ungapped (gatesIn b m))
         → t ≡ take (8 * left) c ++ replicate (length c - 8 * left) 0 → TidiedIn s t left k
-    going-done s c t left is size len le h all e =
-        let done : record { left = kept (gatesIn b m); steps = k } ≡ tidied (gatesOf s) = going-end le ∙ ap tidied is in
-        let list : kept (gatesIn b m) ≡ tidied (gatesOf s) .left = ap (λ (r : Outcome). r .left) done in
+    stepping-done s c t left is size len le h all e =
+        let done : record { left = ungapped (gatesIn b m); steps = k } ≡ tidied (gatesOf s) = stepping-end le ∙ ap tidied is in
+        let list : ungapped (gatesIn b m) ≡ tidied (gatesOf s) .left = ap (λ (r : Outcome). r .left) done in
         let count : left ≡ length (tidied (gatesOf s) .left) = all ∙ ap length list in
         let bytes : take (8 * left) c ≡ bytesOf (tidied (gatesOf s) .left) =
-        ap (λ (y : ℕ). take (8 * y) c) all ∙ holds-bytes c (kept (gatesIn b m)) h ∙ ap bytesOf list in
+        ap (λ (y : ℕ). take (8 * y) c) all ∙ holds-bytes c (ungapped (gatesIn b m)) h ∙ ap bytesOf list in
         let freed : length c - 8 * left ≡ 8 * (records s - length (tidied (gatesOf s) .left)) = omega arith in
         record { count = count; uses = ap (λ (r : Outcome). r .steps) done; bytes = e ∙ rw (bytes, freed) }

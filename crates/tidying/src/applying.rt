@@ -5,9 +5,12 @@ ghost use lib.ListN.{set};
 ghost use Rattle.gates.specs.Inner.Words.{gateOf, GateWord};
 ghost use Rattle.rules.specs.Tidying.{ruled};
 ghost use Rattle.rules.specs.Inner.NamedRules.{ruleFor};
-ghost use Rattle.remembering.specs.Buffers.{gatesIn, gap, Stands, kept, rank};
-ghost use Rattle.tidying.specs.Searches.{Remembers, PairAt, leftBy};
+ghost use Rattle.remembering.specs.Inner.Buffers.{gatesIn, gap, ungapped, rank};
+ghost use Rattle.remembering.specs.Inner.Changes.{ChangeFits};
+ghost use Rattle.tidying.specs.Inner.Searches.{Remembers, PairAt, leftBy};
+use super::pairs::Pair;
 use gates::Gate;
+use remembering::changes::Change;
 use rules::fitting::Left;
 use rules::fitting::Rule;
 
@@ -18,7 +21,7 @@ fn leave_gap() -> Gate
     Gate {
         operator: 0,
         target: 6,
-        controls: 4095,
+        controls: 0x0fff,
     }
 }
 
@@ -43,44 +46,41 @@ fn leave_pair(g: u64, h: u64) -> Left
     }
 }
 
-// Gate p of m becomes g; answers the lowest row that may have a pair then.
+// The change is made in the buffer; answers the lowest row that may have a pair then.
 fn replace(
     b: &mut [u8],
     far: &mut [u16],
     reach: &mut [u16],
     marks: &mut [u64],
-    m: usize,
-    p: usize,
-    g: Gate,
-    from: usize,
+    change: Change,
 ) -> usize
-    requires { ⌜ Remembers (now b) (now far) (now reach) (now marks) m from × (from ≤ p) × (p < m) × Stands g ⌝ }
-    ensures { λ q. ⌜ Remembers (now (b .exit)) (now (far .exit)) (now (reach .exit)) (now (marks .exit)) m q × (q ≤ from) × (gatesIn (now (b .exit)) m ≡ set (gatesIn (now (b .entry)) m) p g) ⌝ }
+    requires { ⌜ ChangeFits (now b) change × Remembers (now b) (now far) (now reach) (now marks) (change .count) (change .from) ⌝ }
+    ensures { λ q. ⌜ Remembers (now (b .exit)) (now (far .exit)) (now (reach .exit)) (now (marks .exit)) (change .count) q × (q ≤ change .from) × (gatesIn (now (b .exit)) (change .count) ≡ set (gatesIn (now (b .entry)) (change .count)) (change .place) (change .gate)) ⌝ }
 {
-    let low = remembering::memory::settle_rows(b, far, reach, marks, m, p, g, from);
-    gates::encode(g, b, 8 * p);
-    remembering::views::forget_stretch(marks, p / 16);
+    let low = remembering::changes::settle_rows(b, far, reach, marks, change);
+    gates::encode(change.gate, b, 8 * change.place);
     low
 }
 
-// The rule that fits the first pair i, j of m places; answers the lowest row that may have a pair then.
+// The rule that fits the first pair of m places; answers the lowest row that may have a pair then.
 pub fn apply_rule(
     b: &mut [u8],
     far: &mut [u16],
     reach: &mut [u16],
     marks: &mut [u64],
     m: usize,
-    i: usize,
-    j: usize,
+    pair: Pair,
 ) -> usize
-    requires { ⌜ Remembers (now b) (now far) (now reach) (now marks) m i × (i < m) × PairAt (gatesIn (now b) m) i j ⌝ }
+    requires { ⌜ Remembers (now b) (now far) (now reach) (now marks) m (pair .i) × (pair .i < m) × PairAt (gatesIn (now b) m) (pair .i) (pair .j) ⌝ }
     ensures { λ q. ⌜ Remembers (now (b .exit)) (now (far .exit)) (now (reach .exit)) (now (marks .exit)) m q ⌝ }
-    ensures { λ _. ⌜ kept (gatesIn (now (b .exit)) m) ≡ ruled (kept (gatesIn (now (b .entry)) m)) (rank (gatesIn (now (b .entry)) m) i) (rank (gatesIn (now (b .entry)) m) j) ⌝ }
+    ensures { λ _. ⌜ ungapped (gatesIn (now (b .exit)) m) ≡ ruled (ungapped (gatesIn (now (b .entry)) m)) (rank (gatesIn (now (b .entry)) m) (pair .i)) (rank (gatesIn (now (b .entry)) m) (pair .j)) ⌝ }
 {
     let left = leave_pair(
-        remembering::views::word(b, m, i),
-        remembering::views::word(b, m, j),
+        remembering::views::read_word(b, m, pair.i),
+        remembering::views::read_word(b, m, pair.j),
     );
-    let low = replace(b, far, reach, marks, m, j, left.second, i);
-    replace(b, far, reach, marks, m, i, left.first, low)
+    let late = remembering::changes::plan_change(m, pair.j, left.second, pair.i);
+    let low = replace(b, far, reach, marks, late);
+    let early = remembering::changes::plan_change(m, pair.i, left.first, low);
+    replace(b, far, reach, marks, early)
 }

@@ -4,8 +4,8 @@ ghost use Rattle.rules.specs.Tidying.{tidyAnswer, tidyBuffer};
 ghost use Rattle.tidying.specs.Answers.{tidiedAs};
 
 mod applying;
+mod pairs;
 mod repeating;
-mod scan;
 
 use cascades::Counted;
 

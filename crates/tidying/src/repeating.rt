@@ -1,13 +1,5 @@
 // Steps repeated until none fits.
-ghost use mathlib.Core.Path.{_≡_};
-ghost use Prim.Native.Nat.{_+_, _*_, _≤_};
-ghost use lib.ListN.{length, replicate};
-ghost use Rattle.ranges.specs.Lists.{Each};
-ghost use Rattle.gates.specs.Gates.{IsGate};
-ghost use Rattle.cascades.specs.Cascades.{gatesOf};
-ghost use Rattle.remembering.specs.Buffers.{Holds};
-ghost use Rattle.remembering.specs.Views.{allKinds};
-ghost use Rattle.tidying.specs.Searches.{TidiedIn};
+ghost use Rattle.tidying.specs.Inner.Searches.{GateRecords, MemoryRoom, TidiedIn};
 
 // What is left of m gates, and how many steps it took.
 pub struct Done {
@@ -15,8 +7,8 @@ pub struct Done {
     pub steps: usize,
 }
 
-// Tidies the m records of the buffer, with room to remember by: a number for each row, and one and two for each stretch of sixteen, of which nothing is
-// known at first.
+// Tidies the m records of the buffer, with room to remember by: a number for each row, and one and two for each stretch of sixteen, of which
+// nothing is known at first.
 fn repeat_steps(
     b: &mut [u8],
     far: &mut [u16],
@@ -24,22 +16,19 @@ fn repeat_steps(
     marks: &mut [u64],
     m: usize,
 ) -> Done
-    requires { ⌜ Holds (now b) (gatesOf (now b)) × Each (IsGate 6) (gatesOf (now b)) ⌝ }
-    requires { ⌜ (length (now b) ≡ 8 * m) × (m ≤ 8000) × (m + 16 ≤ length (now far)) × (m + 256 ≤ 16 * length (now reach)) × (m + 16 ≤ 8 * length (now marks)) × (now marks ≡ replicate (length (now marks)) allKinds) ⌝ }
+    requires { ⌜ GateRecords (now b) m × MemoryRoom (now far) (now reach) (now marks) m ⌝ }
     ensures { λ r. ⌜ TidiedIn (now (b .entry)) (now (b .exit)) (r .left) (r .steps) ⌝ }
 {
-    remembering::memory::start_rows(far, m);
-    remembering::memory::start_reach(reach, (m + 15) / 16);
+    remembering::rows::start_rows(far, m);
+    remembering::rows::start_reach(reach, (m + 15) / 16);
     let mut from: usize = 0;
     let mut steps: usize = 0;
     loop {
-        let pair = super::scan::find_pair(b, far, reach, marks, m, from);
-        let i = pair.i;
-        let j = pair.j;
-        if m <= i {
+        let pair = super::pairs::find_pair(b, far, reach, marks, m, from);
+        if m <= pair.i {
             break;
         }
-        from = super::applying::apply_rule(b, far, reach, marks, m, i, j);
+        from = super::applying::apply_rule(b, far, reach, marks, m, pair);
         steps = steps + 1;
     }
     let left = remembering::buffer::close_gaps(b, m);
@@ -49,8 +38,7 @@ fn repeat_steps(
 
 // Tidies the m records of the buffer.
 pub fn tidy_records(b: &mut [u8], m: usize) -> Done
-    requires { ⌜ Holds (now b) (gatesOf (now b)) × Each (IsGate 6) (gatesOf (now b)) ⌝ }
-    requires { ⌜ (length (now b) ≡ 8 * m) × (m ≤ 8000) ⌝ }
+    requires { ⌜ GateRecords (now b) m ⌝ }
     ensures { λ r. ⌜ TidiedIn (now (b .entry)) (now (b .exit)) (r .left) (r .steps) ⌝ }
 {
     // A short cascade gets a short memory: clearing the long one takes longer than tidying it.

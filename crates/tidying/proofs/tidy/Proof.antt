@@ -17,9 +17,6 @@ use Rattle.tidying.proofs.tidy.Tie as tie
 
 -- what checking has found
 module _ (c : tie.After-known-told2) where
-  count : c .before .m .given .0 .0 ≡ records (c .before .before .before .before .before .before .args .cascade .now)
-  count = check-count _ _ _ (sym (c .before .before .before .check-cascade .ensures) ∙ ap countedAs (c .before .m .given .1))
-
   whole : Whole (c .before .before .before .before .before .before .args .lines) (c .before .before .before .before .before .before .args .cascade .now) (records (c .before .before .before .before .before .before .args .cascade .now))
   whole = check-whole _ _ _ (sym (c .before .before .before .check-cascade .ensures) ∙ ap countedAs (c .before .m .given .1))
 
@@ -35,7 +32,8 @@ enum-known-m c = search needs
 tidy-records-requires : tie.Need-tidy-records-requires
 tidy-records-requires c κs =
     let w = whole (c .before) in
-    ((holds-start _ _ _ w, gates-start _ _ _ w), (rw (count (c .before)) (w .size), rw (count (c .before)) (w .most)))
+    let count = check-count _ _ _ (sym (c .before .before .before .before .check-cascade .ensures) ∙ ap countedAs (c .before .before .m .given .1)) in
+    record { size = rw count (w .size); few = rw count (w .most); holds = holds-start _ _ _ w; gates = gates-start _ _ _ w }
 
 same-length : tie.Need-same-length
 same-length c = search needs

@@ -1,10 +1,8 @@
 -- `remembering::buffer::close_gaps` meets its contract: the gates before p stand one behind the other. Assumes nothing.
-use Prim.Native.Nat.{ℕ, _-_, _<_}
+use Prim.Native.Nat.{_-_}
 use native.Mathlib.Omega.{arith}
-use mathlib.Core.List.{List}
-use lib.ListN.{length}
-use Rattle.remembering.specs.Buffers.{gatesIn}
-use Rattle.remembering.proofs.Buffers.{length-gates, Closing, closing-start, closing-order, closing-room, closing-next, closing-end}
+use Rattle.remembering.specs.Inner.Buffers.{gatesIn}
+use Rattle.remembering.proofs.Buffers.{length-gates, gates-inside, Closing, closing-start, closing-order, closing-room, closing-next, closing-end}
 use borrow.Author.Needs.{needs}
 use Rattle.remembering.proofs.buffer.close_gaps.Statement.{statement}
 use Rattle.remembering.proofs.buffer.close_gaps.Tie as tie
@@ -15,15 +13,11 @@ Inv-loop b₀ m q₀ p₀ b q p = Closing (gatesIn b₀ m) b₀ b p q
 abbrev μ-loop : tie.MeasureT-loop
 μ-loop b₀ m q₀ p₀ b q p = m - p
 
--- a place below m is one of a gate
-below : (b : List ℕ) (m q : ℕ) → q < m → q < length (gatesIn b m)
-below b m q lt = rw (length-gates b m) lt
-
 loop-holds : tie.Need-loop-holds Inv-loop μ-loop
 loop-holds c = closing-start _ _
 
 keep-record-requires : tie.Need-keep-record-requires Inv-loop μ-loop
-keep-record-requires c κs = (closing-order _ _ _ _ _ (c .before .before .before .before .pre) (below _ _ _ (c .before .loop-test .taken)) (c .before .before .loop .inv), closing-room _ _ _ _ _ (c .before .before .before .before .pre) (below _ _ _ (c .before .loop-test .taken)) (c .before .before .loop .inv))
+keep-record-requires c κs = (closing-order _ _ _ _ _ (c .before .before .before .before .pre) (gates-inside _ _ _ (c .before .loop-test .taken)) (c .before .before .loop .inv), closing-room _ _ _ _ _ (c .before .before .before .before .pre) (gates-inside _ _ _ (c .before .loop-test .taken)) (c .before .before .loop .inv))
 
 add-p : tie.Need-add-p Inv-loop μ-loop
 add-p c = search needs
@@ -32,7 +26,7 @@ loop-less : tie.Need-loop-less Inv-loop μ-loop
 loop-less c = search needs
 
 loop-again : tie.Need-loop-again Inv-loop μ-loop
-loop-again c = closing-next _ _ _ _ _ (c .before .before .before .before .before .before .before .pre) (below _ _ _ (c .before .before .before .before .loop-test .taken)) (c .before .before .before .before .before .loop .inv) _ _ (c .before .before .keep-record .ensures)
+loop-again c = closing-next _ _ _ _ _ (c .before .before .before .before .before .before .before .pre) (gates-inside _ _ _ (c .before .before .before .before .loop-test .taken)) (c .before .before .before .before .before .loop .inv) _ _ (c .before .before .keep-record .ensures)
 
 same-length : tie.Need-same-length Inv-loop μ-loop
 same-length c = c .before .loop .inv .len

@@ -7,7 +7,7 @@ use Rattle.remembering.proofs.views.against.Statement.{statement}
 use Rattle.remembering.proofs.views.against.Tie as tie
 
 module _ (c : tie.After-weight) where
-  part : c .before .other-part .result * c .weight .result ≤ 71776119061217280
+  part : c .before .other-part .result * c .weight .result ≤ 0xff_0000_0000_0000
   part = rw (c .weight .ensures) (part-most (c .before .other-part .result) (c .before .before .before .args .w) (c .before .other-part .ensures .1) (c .before .before .before .pre .on-line))
 
 shun-requires : tie.Need-shun-requires

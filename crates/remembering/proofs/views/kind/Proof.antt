@@ -2,7 +2,7 @@
 use mathlib.Core.Path.{sym, _∙_, ap}
 use Prim.Native.Nat.{ℕ, _^_}
 use native.Mathlib.Omega.{arith}
-use Rattle.remembering.specs.Views.{sixBits}
+use Rattle.remembering.specs.Inner.Views.{sixBits}
 use Rattle.remembering.proofs.Stretches.{kind-none, kind-word, shifted-bit}
 use borrow.Author.Needs.{needs}
 use Rattle.remembering.proofs.views.kind.Statement.{statement}

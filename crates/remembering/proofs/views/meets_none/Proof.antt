@@ -21,19 +21,19 @@ returns : tie.Need-returns
 returns c = λ e. clash false e refl
 
 mul-result : tie.Need-mul-result
-mul-result c = omega (arith, c .before .before .pre)
+mul-result c = omega (arith, c .before .before .before .pre)
 
 add-result : tie.Need-add-result
-add-result c = omega (arith, c .before .before .pre)
+add-result c = omega (arith, c .before .before .before .pre)
 
 mul-result-2 : tie.Need-mul-result-2
 mul-result-2 c = search needs
 
 shared-slice-read-result : tie.Need-shared-slice-read-result
-shared-slice-read-result c = omega (arith, c .before .before .before .pre)
+shared-slice-read-result c = omega (arith, c .before .before .before .before .pre)
 
 returns-2 : tie.Need-returns-2
-returns-2 c = λ e. (omega (arith, c .before .if1 .left), eqb-true _ _ e)
+returns-2 c = λ e. (omega (arith, c .before .before .if1 .left), eqb-true _ _ e)
 
 pub meets-none-spec : {M : Type 1} → statement M
 meets-none-spec =

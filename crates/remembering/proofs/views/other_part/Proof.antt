@@ -1,6 +1,6 @@
 -- `remembering::views::other_part` meets its contract: the definition is what the body computes. Assumes nothing.
 use native.Mathlib.Omega.{arith}
-use Rattle.remembering.specs.Views.{otherPart}
+use Rattle.remembering.specs.Inner.Views.{otherPart}
 use borrow.Author.Needs.{needs}
 use Rattle.remembering.proofs.views.other_part.Statement.{statement}
 use Rattle.remembering.proofs.views.other_part.Tie as tie

@@ -7,7 +7,7 @@ use borrow.Author.Tests.{eqb-true}
 use Rattle.ranges.specs.Ranges.{every}
 use Rattle.ranges.proofs.Tests.{every-below}
 use Rattle.rules.specs.Places.{isC}
-use Rattle.remembering.specs.Views.{typeOf, ownPart}
+use Rattle.remembering.specs.Inner.Views.{typeOf, ownPart}
 use borrow.Author.Needs.{needs}
 use Rattle.remembering.proofs.views.own_part.Statement.{statement}
 use Rattle.remembering.proofs.views.own_part.Tie as tie

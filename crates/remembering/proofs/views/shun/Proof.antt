@@ -5,16 +5,16 @@ use mathlib.Core.Path.{_≡_}
 use Rattle.digits.proofs.Bits.{digit-of-zero}
 use Rattle.gates.specs.Inner.Words.{gateOf}
 use Rattle.gates.proofs.Marks.{marks-lt}
-use Rattle.remembering.specs.Views.{shunned}
+use Rattle.remembering.specs.Inner.Views.{shunned}
 use Rattle.remembering.proofs.Stretches.{shun-sum, shunned-lt}
 use Rattle.remembering.proofs.views.shun.Statement.{statement}
 use Rattle.remembering.proofs.views.shun.Tie as tie
 
 module _ (c : tie.After-mark-others) where
-  total : 12 * c .before .mark-controls .result + 4 * c .mark-others .result ≡ shunned (gateOf (c .before .before .args .w)) + c .before .before .args .w / 65536 + 1103823438081
+  total : 12 * c .before .mark-controls .result + 4 * c .mark-others .result ≡ shunned (gateOf (c .before .before .args .w)) + c .before .before .args .w / 0x1_0000 + 0x0101_0101_0101
   total = rw (c .before .mark-controls .ensures, c .mark-others .ensures) (shun-sum (c .before .before .args .w) (c .before .before .pre .small) (c .before .before .pre .lines))
 
-  small : 12 * c .before .mark-controls .result + 4 * c .mark-others .result < 18446744073709551616
+  small : 12 * c .before .mark-controls .result + 4 * c .mark-others .result < 0x1_0000_0000_0000_0000
   small = omega (arith, total, shunned-lt (c .before .before .args .w) (c .before .before .pre .small) (c .before .before .pre .lines), c .before .before .pre .small)
 
 mark-controls-requires : tie.Need-mark-controls-requires
@@ -40,7 +40,7 @@ sub-result-2 c = omega (arith, total c)
 
 returns : tie.Need-returns
 returns c =
-    let e : 12 * c .before .mark-controls .result + 4 * c .mark-others .result - c .before .before .args .w / 65536 - 1103823438081 ≡ shunned (gateOf (c .before .before .args .w)) = omega (arith, total c) in
+    let e : 12 * c .before .mark-controls .result + 4 * c .mark-others .result - c .before .before .args .w / 0x1_0000 - 0x0101_0101_0101 ≡ shunned (gateOf (c .before .before .args .w)) = omega (arith, total c) in
     (e, rw e (shunned-lt (c .before .before .args .w) (c .before .before .pre .small) (c .before .before .pre .lines)))
 
 pub shun-spec : {M : Type 1} → statement M

@@ -4,8 +4,8 @@ use Prim.Native.Nat.{ℕ, _+_, _-_, _<_, _≤_}
 use native.Mathlib.Nat.{add-zero}
 use native.Mathlib.Omega.{arith}
 use lib.ListN.{length}
-use Rattle.remembering.specs.Buffers.{gatesIn}
-use Rattle.remembering.specs.Views.{viewOf, kindOf, Passed}
+use Rattle.remembering.specs.Inner.Buffers.{gatesIn}
+use Rattle.remembering.specs.Inner.Views.{viewOf, kindOf, StretchPassed}
 use Rattle.remembering.proofs.Buffers.{length-gates}
 use Rattle.remembering.proofs.Stretches.{passed-start, passed-next}
 use borrow.Author.Needs.{needs}
@@ -13,10 +13,10 @@ use Rattle.remembering.proofs.views.stretch_of.Statement.{statement}
 use Rattle.remembering.proofs.views.stretch_of.Tie as tie
 
 abbrev Inv-loop : tie.InvT-loop
-Inv-loop b m x sets₀ kinds₀ k₀ sets kinds k = Passed (gatesIn b m) x (x + k) sets kinds × (k ≤ 16)
+Inv-loop b m x types₀ kinds₀ k₀ types kinds k = StretchPassed (gatesIn b m) x (x + k) types kinds × (k ≤ 16)
 
 abbrev μ-loop : tie.MeasureT-loop
-μ-loop b m x sets₀ kinds₀ k₀ sets kinds k = 16 - k
+μ-loop b m x types₀ kinds₀ k₀ types kinds k = 16 - k
 
 next : (x k : ℕ) → x + (k + 1) ≡ x + k + 1
 next x k = omega arith
@@ -24,17 +24,17 @@ next x k = omega arith
 loop-holds : tie.Need-loop-holds Inv-loop μ-loop
 loop-holds c = (rw (add-zero (c .before .args .x)) (passed-start _ _), omega arith)
 
-add-word : tie.Need-add-word Inv-loop μ-loop
-add-word c = omega (arith, c .loop-test .taken, c .before .before .before .pre .1, c .before .before .before .pre .0 .room)
+add-read-word : tie.Need-add-read-word Inv-loop μ-loop
+add-read-word c = omega (arith, c .loop-test .taken, c .before .before .before .pre .1, c .before .before .before .pre .0 .room)
 
-word-requires : tie.Need-word-requires Inv-loop μ-loop
-word-requires c κs = (c .before .before .before .pre .0, omega (arith, c .loop-test .taken, c .before .before .before .pre .1))
+read-word-requires : tie.Need-read-word-requires Inv-loop μ-loop
+read-word-requires c κs = (c .before .before .before .pre .0, omega (arith, c .loop-test .taken, c .before .before .before .pre .1))
 
 view-requires : tie.Need-view-requires Inv-loop μ-loop
-view-requires c κs = c .word .ensures .0
+view-requires c κs = c .read-word .ensures .0
 
 kind-requires : tie.Need-kind-requires Inv-loop μ-loop
-kind-requires c κs = c .before .word .ensures .0
+kind-requires c κs = c .before .read-word .ensures .0
 
 add-k : tie.Need-add-k Inv-loop μ-loop
 add-k c = search needs
@@ -46,7 +46,7 @@ loop-again : tie.Need-loop-again Inv-loop μ-loop
 loop-again c =
     let inside : c .before .before .before .before .before .before .args .x + c .before .before .before .before .loop .k < length (gatesIn (c .before .before .before .before .before .before .args .b .now) (c .before .before .before .before .before .before .args .m)) =
     rw (length-gates (c .before .before .before .before .before .before .args .b .now) (c .before .before .before .before .before .before .args .m)) (omega (arith, c .before .before .before .loop-test .taken, c .before .before .before .before .before .before .pre .1)) in
-    let same = c .before .before .word .ensures .1 in (
+    let same = c .before .before .read-word .ensures .1 in (
       rw (next (c .before .before .before .before .before .before .args .x) (c .before .before .before .before .loop .k), c .before .view .ensures ∙ ap viewOf same, c .kind .ensures ∙ ap kindOf same)
           (passed-next _ _ _ _ _ (c .before .before .before .before .before .before .pre .0 .gates) inside (c .before .before .before .before .loop .inv .0)),
       omega (arith, c .before .before .before .loop-test .taken),
@@ -64,8 +64,8 @@ stretch-of-spec =
     Inv-loop
     μ-loop
     loop-holds
-    add-word
-    word-requires
+    add-read-word
+    read-word-requires
     view-requires
     kind-requires
     add-k

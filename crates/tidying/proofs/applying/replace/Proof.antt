@@ -1,33 +1,29 @@
--- `tidying::applying::replace` meets its contract: the rows are settled for the new gate, it is stored, and its stretch is forgotten. Assumes nothing.
-use mathlib.Core.Path.{_∙_}
+-- `tidying::applying::replace` meets its contract: the rows are settled for the new gate, and it is stored. Assumes nothing.
+use mathlib.Core.Path.{_≡_, _∙_}
 use Prim.Native.Nat.{_+_, _*_, _<_, _≤_}
 use native.Mathlib.Omega.{arith}
-use lib.ListN.{length, set, length-set}
-use Rattle.remembering.specs.Buffers.{gatesIn, Holds}
-use Rattle.remembering.proofs.Buffers.{length-gates, holds-fits, holds-set, holds-list}
-use Rattle.remembering.proofs.Stretches.{marked-set}
+use lib.ListN.{length, length-set}
+use Rattle.remembering.specs.Inner.Buffers.{gatesIn}
+use Rattle.remembering.proofs.Buffers.{length-gates, gates-inside, holds-fits, holds-set, holds-list}
 use borrow.Author.Needs.{needs}
 use Rattle.tidying.proofs.applying.replace.Statement.{statement}
 use Rattle.tidying.proofs.applying.replace.Tie as tie
 
-module _ (c : tie.Start) where
-  inside : c .args .p < length (gatesIn (c .args .b .now) (c .args .m))
-  inside = rw (length-gates (c .args .b .now) (c .args .m)) (c .pre .2)
+module _ (s : tie.Start) where
+  inside : s .args .change .place < length (gatesIn (s .args .b .now) (s .args .change .count))
+  inside = gates-inside _ _ _ (s .pre .0 .inside)
 
-  fits : 8 * c .args .p + 8 ≤ length (c .args .b .now)
-  fits = holds-fits _ _ (c .pre .0 .holds) _ inside
+  fits : 8 * s .args .change .place + 8 ≤ length (s .args .b .now)
+  fits = holds-fits _ _ (s .pre .0 .holds) _ inside
 
 settle-rows-requires : tie.Need-settle-rows-requires
-settle-rows-requires c κs = let s = c .before .before .before .before .before .before .before .before in let w = s .pre .0 in ((w .holds, w .marked), (s .pre .1, s .pre .2, w .most, s .pre .3, w .known, w .low, w .reached))
+settle-rows-requires c κs = (c .before .before .before .before .before .before .before .before .pre .0, c .before .before .before .before .before .before .before .before .pre .1 .memory)
 
 mul-encode : tie.Need-mul-encode
-mul-encode c = omega (arith, fits (c .before .before .before .before .before .before .before .before .before .before .before .before .before .before .before .before))
+mul-encode c = omega (arith, fits (c .before .before .before .before .before .before .before .before .before .before .before .before .before .before .before .before .before))
 
 encode-requires : tie.Need-encode-requires
-encode-requires c κs = fits (c .before .before .before .before .before .before .before .before .before .before .before .before .before .before .before .before)
-
-forget-stretch-requires : tie.Need-forget-stretch-requires
-forget-stretch-requires c κs = let s = c .before .before .before .before .before .before .before .before .before .before .before .before .before .before .before .before .before .before .before .before in (omega (arith, inside s, c .before .before .before .before .before .before .before .before .before .before .before .settle-rows .ensures .1 .1 .room), omega (arith, s .pre .2, s .pre .0 .most))
+encode-requires c κs = fits (c .before .before .before .before .before .before .before .before .before .before .before .before .before .before .before .before .before)
 
 same-length : tie.Need-same-length
 same-length c = search needs
@@ -43,22 +39,11 @@ same-length-4 c = search needs
 
 returns : tie.Need-returns
 returns c =
-    let s = c .before .before .before .before .before .before .before .before .before .before .before .before .before .before .before .before .before .before .before .before .before .before .before in
-    let d = c .before .before .before .before .before .before .before .before .before .before .before .before .before .before .settle-rows .ensures in
-    let held : Holds (c .before .before .before .before .before .before .encode .last .1 .0) (set (gatesIn (s .args .b .now) (s .args .m)) (s .args .p) (s .args .g)) = rw (c .before .before .before .before .before .before .encode .ensures) (holds-set _ _ _ _ (s .pre .0 .holds) (inside s) (s .pre .3)) in
-    let same = holds-list _ _ _ held (length-set (gatesIn (s .args .b .now) (s .args .m)) (s .args .p) (s .args .g) ∙ length-gates (s .args .b .now) (s .args .m)) in (
-      record {
-        most = s .pre .0 .most;
-        within = omega (arith, d .0 .1, s .pre .0 .within);
-        holds = rw same held;
-        known = rw same (d .0 .0);
-        low = d .0 .2;
-        reached = d .1 .0;
-        marked = rw (c .before .before .forget-stretch .ensures, same) (marked-set _ _ _ _ (inside s) (d .1 .1));
-      },
-      d .0 .1,
-      same,
-    )
+    let s = (c .before .before .before .before .before .before .before .before .before .before .before .before .before .before .before .before .before .before .before .before) in
+    let d = c .before .before .before .before .before .before .before .before .before .before .before .settle-rows .ensures in
+    let held = rw (← c .before .before .encode .ensures) at (holds-set _ _ _ _ (s .pre .0 .holds) (inside s) (s .pre .0 .either)) in
+    let same = holds-list _ _ _ held (length-set (gatesIn (s .args .b .now) (s .args .change .count)) (s .args .change .place) (s .args .change .gate) ∙ length-gates (s .args .b .now) (s .args .change .count)) in
+    (record { holds = rw same held; memory = rw same (d .1) }, d .0, same)
 
 pub replace-spec : {M : Type 1} → statement M
 replace-spec =
@@ -67,7 +52,6 @@ replace-spec =
     settle-rows-requires
     mul-encode
     encode-requires
-    forget-stretch-requires
     same-length
     same-length-2
     same-length-3

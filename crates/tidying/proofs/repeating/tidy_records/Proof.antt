@@ -15,7 +15,7 @@ slice-aggregate-repeat-steps-3 : tie.Need-slice-aggregate-repeat-steps-3
 slice-aggregate-repeat-steps-3 c = search needs
 
 repeat-steps-requires : tie.Need-repeat-steps-requires
-repeat-steps-requires c κs = let w = c .before .before .before .before .before .before .pre .1 in (c .before .before .before .before .before .before .pre .0, (w .0, w .1, omega (arith, w), omega (arith, w), omega (arith, w), refl))
+repeat-steps-requires c κs = let w = c .before .before .before .before .before .before .pre in (w, record { far-room = omega (arith, w .few); reach-room = omega (arith, w .few); marks-room = omega (arith, w .few); blank = refl })
 
 same-length : tie.Need-same-length
 same-length c = search needs
@@ -33,7 +33,7 @@ slice-aggregate-repeat-steps-6 : tie.Need-slice-aggregate-repeat-steps-6
 slice-aggregate-repeat-steps-6 c = search needs
 
 repeat-steps-requires-2 : tie.Need-repeat-steps-requires-2
-repeat-steps-requires-2 c κs = let w = c .before .before .before .before .before .before .pre .1 in (c .before .before .before .before .before .before .pre .0, (w .0, w .1, omega (arith, w), omega (arith, w), omega (arith, w), refl))
+repeat-steps-requires-2 c κs = let w = c .before .before .before .before .before .before .pre in (w, record { far-room = omega (arith, w .few); reach-room = omega (arith, w .few); marks-room = omega (arith, w .few); blank = refl })
 
 same-length-2 : tie.Need-same-length-2
 same-length-2 c = search needs
