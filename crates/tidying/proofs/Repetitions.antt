@@ -16,7 +16,7 @@ use Rattle.gates.specs.declared.Gate.{Gate}
 use Rattle.gates.specs.Gates.{IsGate}
 use Rattle.cascades.specs.Cascades.{records, gatesOf, bytesOf}
 use Rattle.cascades.proofs.Cascades.{gates-count}
-use Rattle.rules.specs.Tidying.{firstJ, firstI, ruled, untidy, step, Outcome, size, tidied}
+use Rattle.rules.specs.Tidying.{firstJ, firstI, ruled, untidy, step, Outcome, gatesAndControls, tidied}
 use Rattle.rules.proofs.Weights.{control-count-le}
 use Rattle.rules.proofs.TidySteps.{stepped-gates-and-controls, step-stepped}
 use Rattle.rules.proofs.Endings.{afterSteps, after-none, after-one-more, one-answer, tidied-procedure}
