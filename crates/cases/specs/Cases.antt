@@ -18,11 +18,11 @@ pub record Case : Type 0 where
   pub given : Result
   pub printed : Result
 
-abbrev answers : Answer → Answer → List Case
-answers a b = record { given = says a; printed = says b } ∷ []
+abbrev answer-is : Answer → Answer → List Case
+answer-is a b = record { given = says a; printed = says b } ∷ []
 
-abbrev holds : List ℕ → List ℕ → List Case
-holds a b = record { given = leaves a; printed = leaves b } ∷ []
+abbrev left-is : List ℕ → List ℕ → List Case
+left-is a b = record { given = leaves a; printed = leaves b } ∷ []
 
 -- records by their names: the operator, the target, and what stands on x0 and x1
 abbrev C1 : ℕ
@@ -54,35 +54,35 @@ gone = 0 ∷ 0 ∷ 0 ∷ 0 ∷ 0 ∷ 0 ∷ 0 ∷ 0 ∷ []
 
 -- tidying the cascade b on n lines answers a and leaves c
 abbrev tidies : ℕ → List ℕ → Answer → List ℕ → List Case
-tidies n b a c = answers (tidyAnswer n b) a ++ holds (tidyBuffer n b) c
+tidies n b a c = answer-is (tidyAnswer n b) a ++ left-is (tidyBuffer n b) c
 
 abbrev p1-p2 : List Case
 p1-p2 =
-    answers (synthesizeAnswer 1 (0 ∷ 1 ∷ 2 ∷ []) 16) (accepted (0 ∷ []))
-    ++ answers (priceAnswer 1 2 []) (accepted (0 ∷ []))
-    ++ answers (synthesizeAnswer 1 (1 ∷ 2 ∷ 0 ∷ []) 16) (accepted (2 ∷ []))
-    ++ holds (bytesOf (synthesized 1 (1 ∷ 2 ∷ 0 ∷ []))) (x0 D free ++ x0 E free)
-    ++ answers (priceAnswer 1 2 (x0 D free ++ x0 E free)) (accepted (2 ∷ []))
+    answer-is (synthesizeAnswer 1 (0 ∷ 1 ∷ 2 ∷ []) 16) (accepted (0 ∷ []))
+    ++ answer-is (priceAnswer 1 2 []) (accepted (0 ∷ []))
+    ++ answer-is (synthesizeAnswer 1 (1 ∷ 2 ∷ 0 ∷ []) 16) (accepted (2 ∷ []))
+    ++ left-is (bytesOf (synthesized 1 (1 ∷ 2 ∷ 0 ∷ []))) (x0 D free ++ x0 E free)
+    ++ answer-is (priceAnswer 1 2 (x0 D free ++ x0 E free)) (accepted (2 ∷ []))
 
 abbrev p3-p7 : List Case
 p3-p7 =
-    answers (checkTableAnswer 1 (0 ∷ 1 ∷ 3 ∷ [])) (refused 3 2)
-    ++ answers (checkTableAnswer 1 (0 ∷ 0 ∷ 1 ∷ [])) (refused 4 1)
-    ++ answers (checkTableAnswer 1 (0 ∷ 0 ∷ 3 ∷ [])) (refused 3 2)
-    ++ answers (checkTableAnswer 1 (0 ∷ 1 ∷ [])) (refused 2 0)
-    ++ answers (checkTableAnswer 0 (0 ∷ [])) (refused 1 0)
-    ++ answers (checkTableAnswer 7 []) (refused 1 0)
+    answer-is (checkTableAnswer 1 (0 ∷ 1 ∷ 3 ∷ [])) (refused 3 2)
+    ++ answer-is (checkTableAnswer 1 (0 ∷ 0 ∷ 1 ∷ [])) (refused 4 1)
+    ++ answer-is (checkTableAnswer 1 (0 ∷ 0 ∷ 3 ∷ [])) (refused 3 2)
+    ++ answer-is (checkTableAnswer 1 (0 ∷ 1 ∷ [])) (refused 2 0)
+    ++ answer-is (checkTableAnswer 0 (0 ∷ [])) (refused 1 0)
+    ++ answer-is (checkTableAnswer 7 []) (refused 1 0)
 
 abbrev p8-p13 : List Case
 p8-p13 =
     tidies 1 (x0 C1 free ++ x0 C1 free) (accepted (1 ∷ 1 ∷ [])) (x0 C2 free ++ gone)
     ++ tidies 1 (x0 C1 free ++ x0 C2 free) (accepted (0 ∷ 1 ∷ [])) (gone ++ gone)
     ++ tidies 2 (x0 C1 0 ++ x0 C1 1) (accepted (2 ∷ 1 ∷ [])) (x0 C1 free ++ x0 C2 2)
-    ++ answers (priceAnswer 2 2 (x0 C1 0 ++ x0 C1 1)) (accepted (6 ∷ []))
-    ++ answers (priceAnswer 2 2 (x0 C1 free ++ x0 C2 2)) (accepted (2 ∷ []))
+    ++ answer-is (priceAnswer 2 2 (x0 C1 0 ++ x0 C1 1)) (accepted (6 ∷ []))
+    ++ answer-is (priceAnswer 2 2 (x0 C1 free ++ x0 C2 2)) (accepted (2 ∷ []))
     ++ tidies 2 (x0 D 0 ++ x0 D 2) (accepted (2 ∷ 1 ∷ [])) (x0 D free ++ x0 D 1)
-    ++ answers (priceAnswer 2 2 (x0 D 0 ++ x0 D 2)) (accepted (4 ∷ []))
-    ++ answers (priceAnswer 2 2 (x0 D free ++ x0 D 1)) (accepted (4 ∷ []))
+    ++ answer-is (priceAnswer 2 2 (x0 D 0 ++ x0 D 2)) (accepted (4 ∷ []))
+    ++ answer-is (priceAnswer 2 2 (x0 D free ++ x0 D 1)) (accepted (4 ∷ []))
     ++ tidies 2 (x1 E free ++ x0 D 2 ++ x1 E free) (accepted (1 ∷ 1 ∷ [])) (x0 D 2 ++ gone ++ gone)
     ++ tidies 2 (x1 N free ++ x0 D 2 ++ x1 N free) (accepted (3 ∷ 0 ∷ [])) (x1 N free ++ x0 D 2 ++ x1 N free)
 
@@ -96,15 +96,15 @@ gates-003 =
 
 abbrev vector-003 : List Case
 vector-003 =
-    answers (synthesizeAnswer 2 table-003 (14 * 8)) (accepted (11 ∷ []))
-    ++ holds (bytesOf (synthesized 2 table-003)) gates-003
-    ++ answers (priceAnswer 2 2 gates-003) (accepted (21 ∷ []))
-    ++ holds (tableOf 2 (gatesOf gates-003)) table-003
+    answer-is (synthesizeAnswer 2 table-003 (14 * 8)) (accepted (11 ∷ []))
+    ++ left-is (bytesOf (synthesized 2 table-003)) gates-003
+    ++ answer-is (priceAnswer 2 2 gates-003) (accepted (21 ∷ []))
+    ++ left-is (tableOf 2 (gatesOf gates-003)) table-003
 
 -- on both sides of an edge
 abbrev edges : List Case
 edges =
-    answers (synthesizeAnswer 2 table-003 (14 * 8 - 1)) (refused 5 14)
+    answer-is (synthesizeAnswer 2 table-003 (14 * 8 - 1)) (refused 5 14)
     ++ tidies 2 [] (accepted (0 ∷ 0 ∷ [])) []
     ++ tidies 2 (x0 C1 2) (accepted (1 ∷ 0 ∷ [])) (x0 C1 2)
 

@@ -78,25 +78,25 @@ module _ (n v : ℕ) (b : List ℕ) where
     pub is : vs ≡ cascadePrice v (gatesOf b) ∷ []
 
   -- what the answer of pricing says: a refusal is that of every call behind 1, 10, 6 and 7
-  abbrev pub Says : Answer → Type 0
-  Says (accepted vs) = Costs vs
-  Says (refused k p) = (x : Answer) → onLines n (refusing (ltb 2 v) 10 0 (onCascade n b x)) ≡ refused k p
+  abbrev pub PriceSays : Answer → Type 0
+  PriceSays (accepted vs) = Costs vs
+  PriceSays (refused k p) = (x : Answer) → onLines n (refusing (ltb 2 v) 10 0 (onCascade n b x)) ≡ refused k p
 
-  pub price-says : (a : Answer) → priceAnswer n v b ≡ a → Says a
+  pub price-says : (a : Answer) → priceAnswer n v b ≡ a → PriceSays a
   unfolding priceAnswer
-  price-says a e = subst Says e (go (linesOk n) (ltb 2 v) (checkAnswer n b) refl refl refl)
+  price-says a e = subst PriceSays e (go (linesOk n) (ltb 2 v) (checkAnswer n b) refl refl refl)
     where
       go : (s t : Bool) (c : Answer) → linesOk n ≡ s → ltb 2 v ≡ t → checkAnswer n b ≡ c
-          → Says (onLines n (refusing (ltb 2 v) 10 0 (onCascade n b (accepted (cascadePrice v (gatesOf b) ∷ [])))))
-      go false t c p q r = subst Says (sym (no-lines n _ p)) (λ x. no-lines n _ p)
-      go true true c p q r = subst Says (sym (good-lines n _ p ∙ refusing-yes (ltb 2 v) 10 0 _ q)) (λ x. good-lines n _ p ∙ refusing-yes (ltb 2 v) 10 0 _ q)
+          → PriceSays (onLines n (refusing (ltb 2 v) 10 0 (onCascade n b (accepted (cascadePrice v (gatesOf b) ∷ [])))))
+      go false t c p q r = subst PriceSays (sym (no-lines n _ p)) (λ x. no-lines n _ p)
+      go true true c p q r = subst PriceSays (sym (good-lines n _ p ∙ refusing-yes (ltb 2 v) 10 0 _ q)) (λ x. good-lines n _ p ∙ refusing-yes (ltb 2 v) 10 0 _ q)
       go true false (refused k m) p q r =
           let behind : (x : Answer) → onLines n (refusing (ltb 2 v) 10 0 (onCascade n b x)) ≡ refused k m =
           λ x. ap (onLines n) (refusing-no (ltb 2 v) 10 0 (onCascade n b x) q) ∙ check-refused n b k m x r in
-          subst Says (sym (behind (accepted (cascadePrice v (gatesOf b) ∷ [])))) behind
+          subst PriceSays (sym (behind (accepted (cascadePrice v (gatesOf b) ∷ [])))) behind
       go true false (accepted vs) p q r =
           let w = check-whole n b vs r in
-          subst Says (sym (ap (onLines n) (refusing-no (ltb 2 v) 10 0 _ q) ∙ passed n b _ _ w)) (record { low = q; whole = w; is = refl })
+          subst PriceSays (sym (ap (onLines n) (refusing-no (ltb 2 v) 10 0 _ q) ∙ passed n b _ _ w)) (record { low = q; whole = w; is = refl })
 
 module _ (n v : ℕ) (b c : List ℕ) where
   -- the first is refused

@@ -25,13 +25,13 @@ use Rattle.rules.specs.Tidying.{tidied, tidyAnswer}
 use Rattle.rules.proofs.Promises.{tidied-count}
 
 -- an accepted answer is no refusal
-never : {A : Type 0} (k p : ℕ) (vs : List ℕ) → accepted vs ≡ refused k p → A
-never k p vs e = let z : _≡_ {A = ℕ} 0 1 = cc in absurd (omega arith)
+not-refused : {A : Type 0} (k p : ℕ) (vs : List ℕ) → accepted vs ≡ refused k p → A
+not-refused k p vs e = let z : _≡_ {A = ℕ} 0 1 = cc in absurd (omega arith)
 
 -- it was passed on by each refusal before it
 passed-on : (bad : Bool) (k p : ℕ) (x : Answer) (vs : List ℕ) → accepted vs ≡ refusing bad k p x → (bad ≡ false) × (accepted vs ≡ x)
 unfolding refusing
-passed-on true k p x vs e = never k p vs e
+passed-on true k p x vs e = not-refused k p vs e
 passed-on false k p x vs e = (refl, e)
 
 -- by 1, 6 and 7 of a cascade
@@ -39,13 +39,13 @@ beyond : (n : ℕ) (b : List ℕ) (x : Answer) (vs : List ℕ) → accepted vs �
 unfolding onLines onRecords
 beyond n b x vs e = passed-on _ 7 _ _ vs (passed-on _ 6 _ _ vs (passed-on _ 1 _ _ vs e .1) .1) .1
 
--- refusal 5 is given where the room is less than asked
-roomy : (room asked : ℕ) (v m : ℕ) → accepted (m ∷ []) ≡ refusing (ltb room asked) 5 asked (accepted (v ∷ [])) → (asked ≤ room) × (m ≡ v)
-roomy room asked v m e =
-    let p = passed-on (ltb room asked) 5 asked (accepted (v ∷ [])) (m ∷ []) e in
+-- refusal 5 is given where the room is less than needed
+roomy : (room needed : ℕ) (v m : ℕ) → accepted (m ∷ []) ≡ refusing (ltb room needed) 5 needed (accepted (v ∷ [])) → (needed ≤ room) × (m ≡ v)
+roomy room needed v m e =
+    let p = passed-on (ltb room needed) 5 needed (accepted (v ∷ [])) (m ∷ []) e in
     let a : accepted (m ∷ []) ≡ accepted (v ∷ []) = p .1 in
     let s : m ≡ v = cc in
-    (ltb-false room asked (p .0), s)
+    (ltb-false room needed (p .0), s)
 
 -- ---- the calls that write, or tidy, in a room of so many entries or bytes
 
@@ -61,9 +61,9 @@ inverse-fits n b room m e =
     let r = roomy (room / 8) (records b) (records b) m (beyond n b _ (m ∷ []) e) in
     omega (arith, r .0, r .1)
 
-pub left-fits : (n : ℕ) (b : List ℕ) (left steps : ℕ) → accepted (left ∷ steps ∷ []) ≡ tidyAnswer n b → 8 * left ≤ length b
+pub tidied-fits : (n : ℕ) (b : List ℕ) (left steps : ℕ) → accepted (left ∷ steps ∷ []) ≡ tidyAnswer n b → 8 * left ≤ length b
 unfolding tidyAnswer
-left-fits n b left steps e =
+tidied-fits n b left steps e =
     let a : accepted (left ∷ steps ∷ []) ≡ accepted (length (tidied (gatesOf b) .left) ∷ tidied (gatesOf b) .steps ∷ []) = beyond n b _ (left ∷ steps ∷ []) e in
     let s : left ≡ length (tidied (gatesOf b) .left) = cc in
     let ok = whole-cascade n b _ (behind-whole isRecord n b _ _ (sym e)) in
@@ -75,11 +75,11 @@ on-table-on n t x vs e = go (on-table-is (3 ^ n) t)
   where
     go : Permutation (3 ^ n) t ⊎ Refuses (3 ^ n) t → Permutation (3 ^ n) t × (accepted vs ≡ x)
     go (_⊎_.inl perm) = (perm, e ∙ on-table-permutation (3 ^ n) t perm x)
-    go (_⊎_.inr r) = never (r .number) (r .place) vs (e ∙ r .always x)
+    go (_⊎_.inr r) = not-refused (r .number) (r .place) vs (e ∙ r .always x)
 
-pub cascade-fits : (n : ℕ) (t : List ℕ) (room m : ℕ) → accepted (m ∷ []) ≡ synthesizeAnswer n t room → 8 * m ≤ room
+pub synthesized-fits : (n : ℕ) (t : List ℕ) (room m : ℕ) → accepted (m ∷ []) ≡ synthesizeAnswer n t room → 8 * m ≤ room
 unfolding synthesizeAnswer onLines
-cascade-fits n t room m e =
+synthesized-fits n t room m e =
     let o = passed-on _ 1 0 _ (m ∷ []) e in
     let p = on-table-on n t _ (m ∷ []) (o .1) in
     let r = roomy (room / 8) (bound n) (length (synthesized n t)) m (p .1) in

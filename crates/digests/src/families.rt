@@ -26,11 +26,16 @@ fn sum_all_tables(
     sums
 }
 
-// So many drawn tables.
-fn sum_drawn_tables(
+// What is drawn: so many, on so many lines, from a seed on.
+struct Drawn {
     lines: u8,
     seed: u32,
     count: u32,
+}
+
+// Drawn tables.
+fn sum_drawn_tables(
+    drawn: Drawn,
     table: &mut [u16],
     room: &mut [u8],
     inverse: &mut [u8],
@@ -39,34 +44,32 @@ fn sum_drawn_tables(
     requires { ⌜ length (now table) ≤ 729 ⌝ }
 {
     let mut sums = crate::sums::nothing();
-    let mut state = seed;
-    let mut left = count;
+    let mut state = drawn.seed;
+    let mut left = drawn.count;
     while 0 < left {
         state = drawing::draws::draw_table(state, table);
-        sums = add_table(sums, lines, table, room, inverse, entries);
+        sums = add_table(sums, drawn.lines, table, room, inverse, entries);
         left = left - 1;
     }
     sums
 }
 
-// So many drawn cascades, each as long as the lent bytes.
+// Drawn cascades, each as long as the lent bytes.
 fn sum_cascades(
     dense: bool,
-    lines: u8,
-    seed: u32,
-    count: u32,
+    drawn: Drawn,
     cascade: &mut [u8],
     inverse: &mut [u8],
     entries: &mut [u16],
 ) -> Sums
-    requires { ⌜ (0 < lines) × (lines ≤ 6) ⌝ }
+    requires { ⌜ (0 < drawn .lines) × (drawn .lines ≤ 6) ⌝ }
 {
     let mut sums = crate::sums::nothing();
-    let mut state = seed;
-    let mut left = count;
+    let mut state = drawn.seed;
+    let mut left = drawn.count;
     while 0 < left {
-        state = drawing::draws::draw_cascade(dense, state, lines as usize, cascade);
-        sums = add_cascade(sums, lines, cascade, inverse, entries);
+        state = drawing::draws::draw_cascade(dense, state, drawn.lines as usize, cascade);
+        sums = add_cascade(sums, drawn.lines, cascade, inverse, entries);
         left = left - 1;
     }
     sums
@@ -91,10 +94,9 @@ pub fn print_drawn_tables(lines: u8, seed: u32, count: u32)
     let mut room = [0u8; 32080];
     let mut inverse = [0u8; 32080];
     let mut entries = [0u16; 729];
+    let drawn = Drawn { lines, seed, count };
     let sums = sum_drawn_tables(
-        lines,
-        seed,
-        count,
+        drawn,
         &mut table[..size],
         &mut room,
         &mut inverse,
@@ -110,14 +112,7 @@ pub fn print_cascades(name: &[u8], dense: bool, lines: u8, seed: u32, count: u32
     let mut cascade = [0u8; 480];
     let mut inverse = [0u8; 480];
     let mut entries = [0u16; 729];
-    let sums = sum_cascades(
-        dense,
-        lines,
-        seed,
-        count,
-        &mut cascade,
-        &mut inverse,
-        &mut entries,
-    );
+    let drawn = Drawn { lines, seed, count };
+    let sums = sum_cascades(dense, drawn, &mut cascade, &mut inverse, &mut entries);
     crate::printing::print_family(name, lines, sums);
 }

@@ -5,15 +5,15 @@ ghost use lib.ListN.{length};
 
 // The state after the next draw.
 fn advance(state: u32) -> u32 {
-    ((state as u64 * 1664525 + 1013904223) % 4294967296) as u32
+    ((state as u64 * 1664525 + 1013904223) % 0x1_0000_0000) as u32
 }
 
-// The number below an end that was drawn with this state.
+// The number below an end that was drawn with this state, by the upper 16 of its 32 bits.
 fn below(state: u32, end: usize) -> usize
     requires { ⌜ 0 < end ⌝ }
     ensures { λ r. ⌜ r < end ⌝ }
 {
-    (state / 65536) as usize % end
+    (state / 0x1_0000) as usize % end
 }
 
 // A table: the identity, each entry from the last on exchanged with one drawn among those up to it.
@@ -27,7 +27,7 @@ pub fn draw_table(state: u32, table: &mut [u16]) -> u32
         s = advance(s);
         let j = below(s, end);
         end = end - 1;
-        crate::orders::exchange(table, end, j);
+        crate::orders::exchange_entries(table, end, j);
     }
     s
 }

@@ -14,7 +14,7 @@ pub fn write_first(table: &mut [u16])
 }
 
 // Two entries change places.
-pub fn exchange(table: &mut [u16], a: usize, b: usize)
+pub fn exchange_entries(table: &mut [u16], a: usize, b: usize)
     requires { ⌜ (a < length (now table)) × (b < length (now table)) ⌝ }
 {
     let kept = table[a];
@@ -59,7 +59,7 @@ fn reverse_from(table: &mut [u16], start: usize)
     let mut b = table.len();
     while a + 1 < b {
         b = b - 1;
-        exchange(table, a, b);
+        exchange_entries(table, a, b);
         a = a + 1;
     }
 }
@@ -70,7 +70,7 @@ pub fn write_next(table: &mut [u16]) {
     if 0 < rise {
         let k = rise - 1;
         let m = last_above(table, k);
-        exchange(table, k, m);
+        exchange_entries(table, k, m);
         reverse_from(table, rise);
     }
 }

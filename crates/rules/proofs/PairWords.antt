@@ -71,16 +71,16 @@ module _ (g h : ℕ) (low-g : LowControls g) (low-h : LowControls h) where
       ⊎-elim (λ (e : every both-free 0 6 ≡ true). eq-eqb _ _ (marks-equal e) ∙ sym e)
       (λ (e : every both-free 0 6 ≡ false). ne-eqb _ _ (λ q. clash (every both-free 0 6) (equal-marks q) e) ∙ sym e) (decide (every both-free 0 6))
 
-  other : ℕ → ℕ
-  other k = cond (eqb (byte (2 + k) g) (byte k (h / 0x1_0000))) 0 1
+  unlike-mark : ℕ → ℕ
+  unlike-mark k = cond (eqb (byte (2 + k) g) (byte k (h / 0x1_0000))) 0 1
 
   flipped : (b : Bool) → _≡_ {A = ℕ} (cond b 0 1) (cond (not b) 1 0)
   flipped true = refl
   flipped false = refl
 
-  others-summed : otherMarks g (h / 0x1_0000) % 255 ≡ sum other 0 6
-  unfolding otherMarks other
-  others-summed = let few = sum-le other 1 0 6 (λ k. one-most (eqb (byte (2 + k) g) (byte k (h / 0x1_0000)))) in omega (arith, bytes-sum other, few)
+  others-summed : otherMarks g (h / 0x1_0000) % 255 ≡ sum unlike-mark 0 6
+  unfolding otherMarks unlike-mark
+  others-summed = let few = sum-le unlike-mark 1 0 6 (λ k. one-most (eqb (byte (2 + k) g) (byte k (h / 0x1_0000)))) in omega (arith, bytes-sum unlike-mark, few)
     where
       one-most : (b : Bool) → cond b 0 1 ≤ 1
       one-most true = omega arith
@@ -88,10 +88,10 @@ module _ (g h : ℕ) (low-g : LowControls g) (low-h : LowControls h) where
 
   -- modulo 255 each byte has the weight 1
   apart-counted : otherMarks g (h / 0x1_0000) % 255 ≡ differences (gateOf g) (gateOf h)
-  unfolding differences differAt other
+  unfolding differences differAt unlike-mark
   apart-counted =
       others-summed
-      ∙ sum-ext other (λ k. cond (not (eqb (control (gateOf g) k) (control (gateOf h) k))) 1 0) 0 6
+      ∙ sum-ext unlike-mark (λ k. cond (not (eqb (control (gateOf g) k) (control (gateOf h) k))) 1 0) 0 6
       (λ k le l. rw (control-word g low-g k l, control-word h low-h k l, byte-high k h) (flipped (eqb (byte (2 + k) g) (byte (2 + k) h))))
 
   -- the rule, by what the code reads off the numbers

@@ -26,9 +26,9 @@ use Rattle.rules.specs.Places.{isC, sameType, upsets, blocks, clashes, m
 keeps-test : ℕ → ℕ → ℕ → Bool
 keeps-test o c x = cond (not (eqb c 3) && upsets o c) true (Bool·beq (holds c (act o x)) (holds c x))
 
-keeps : (o c x : ℕ) → o < 6 → c < 4 → x < 3 → (not (eqb c 3) && upsets o c) ≡ false → holds c (act o x) ≡ holds c x
+holds-kept : (o c x : ℕ) → o < 6 → c < 4 → x < 3 → (not (eqb c 3) && upsets o c) ≡ false → holds c (act o x) ≡ holds c x
 unfolding keeps-test every upsets isC act holds
-keeps o c x lo lc lx quiet =
+holds-kept o c x lo lc lx quiet =
     beq-same (holds c (act o x)) (holds c x)
     (if-not (not (eqb c 3) && upsets o c) (Bool·beq (holds c (act o x)) (holds c x)) (triple-at keeps-test 6 4 3 refl o c x lo lc lx) quiet)
 
@@ -74,7 +74,7 @@ still-fires n g h p ok free =
     let lo : g .operator < 6 = omega (arith, ok .op-high) in
     ap (fires h) (applied-here g p)
     ∙ fires-put 3 (h .controls) p (g .target) (turned (fires g p) (g .operator) (digit 3 (g .target) p)) (turned-lt (fires g p) (g .operator) (digit 3 (g .target) p) lx)
-    (go (fires g p) (keeps (g .operator) (control h (g .target)) (digit 3 (g .target) p) lo lc lx free))
+    (go (fires g p) (holds-kept (g .operator) (control h (g .target)) (digit 3 (g .target) p) lo lc lx free))
   where
     go : (b : Bool) → holds (control h (g .target)) (act (g .operator) (digit 3 (g .target) p)) ≡ holds (control h (g .target)) (digit 3 (g .target) p)
         → holds (control h (g .target)) (turned b (g .operator) (digit 3 (g .target) p)) ≡ holds (control h (g .target)) (digit 3 (g .target) p)

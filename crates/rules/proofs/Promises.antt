@@ -1,5 +1,5 @@
--- What tidying promises, in plain sight: of every well-formed cascade on n lines, and at the end of every list of gates. Each is a sentence of demand 3.
--- Assumes nothing.
+-- What tidying promises, in plain sight: of every well-formed cascade on n lines, and at the end of every list of gates. Each is a sentence of demand
+-- 3. Assumes nothing.
 use mathlib.Core.Path.{_≡_, refl, _∙_}
 use mathlib.Core.Bool.{true, false}
 use mathlib.Core.List.{List}

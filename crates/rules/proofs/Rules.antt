@@ -304,9 +304,9 @@ module _ (n : ℕ) (g h : Gate) (okg : IsGate n g) (okh : IsGate n h) (p : ℕ) 
   x-lt : digit 3 (h .target) p < 3
   x-lt = digit-lt 3 (h .target) p (omega arith)
 
-  undone : (b : Bool) → turned b (inverseOp (g .operator)) (turned b (g .operator) (digit 3 (h .target) p)) ≡ digit 3 (h .target) p
-  undone true = act-inverse (g .operator) (digit 3 (h .target) p) (okg .op-low) (okg .op-high) x-lt
-  undone false = refl
+  twice-undone : (b : Bool) → turned b (inverseOp (g .operator)) (turned b (g .operator) (digit 3 (h .target) p)) ≡ digit 3 (h .target) p
+  twice-undone true = act-inverse (g .operator) (digit 3 (h .target) p) (okg .op-low) (okg .op-high) x-lt
+  twice-undone false = refl
 
   one-after-other : g .target ≡ h .target
       → applied h (applied g p) ≡ put 3 (h .target) p (turned (fires h p) (h .operator) (turned (fires g p) (g .operator) (digit 3 (h .target) p)))
@@ -320,7 +320,7 @@ module _ (n : ℕ) (g h : Gate) (okg : IsGate n g) (okh : IsGate n h) (p : ℕ) 
       let w = cancel-twins g h e in
       sym
       (one-after-other (w .0 .target)
-      ∙ rw (w .1, twins-fire (w .0), undone (fires h p))
+      ∙ rw (w .1, twins-fire (w .0), twice-undone (fires h p))
       (put-same 3 (h .target) p))
 
   merge-keeps : merges g h ≡ true → applied (inverse h) p ≡ applied h (applied g p)
@@ -374,7 +374,7 @@ module _ (n : ℕ) (g h : Gate) (okg : IsGate n g) (okh : IsGate n h) (p : ℕ) 
             as-loosened (retuned g h) (retuned-here g h r ∙ last (control g (lineOf g h)) (control h (lineOf g h)) (digit 3 (lineOf g h) p) (r .first-lt) (r .second-lt) (digit-lt 3 (lineOf g h) p (omega arith)) (r .differ) ns nt)
                 (λ j lt ne. retuned-other g h r j ne ∙ sym (r .others j lt ne)),
           )
-          (rw (← eo) (undone (fires (loosened g h) p)))
+          (rw (← eo) (twice-undone (fires (loosened g h) p)))
 
   reduce-keeps : Reduction g h → applied (retuned g h) (applied (loosened g h) p) ≡ applied h (applied g p)
   unfolding loosened retuned inverse withControl

@@ -1,5 +1,5 @@
--- The gate of the procedure: it is a gate on n lines, and it fires on a pattern exactly if every line but its target holds the digit of a. Its controls are
--- made from those that name a (`controls-made`), and these from the digits of a, all at once (`full-made`). Assumes nothing.
+-- The gate of the procedure: it is a gate on n lines, and it fires on a pattern exactly if every line but its target holds the digit of a. Its
+-- controls are made from those that name a (`controls-made`), and these from the digits of a, all at once (`full-made`). Assumes nothing.
 use mathlib.Core.Path.{_≡_, refl, sym, ap, _∙_}
 use mathlib.Core.Bool.{Bool, true, false, cond, _||_, or-true}
 use mathlib.Core.Logic.{_⊎_}

@@ -1,5 +1,5 @@
--- Words laid into a list from its end to its start: none, that of one gate, and a run before another. At last the list ends with them all, and their bytes
--- are the cascade (`cascade-laid`). Assumes nothing.
+-- Words laid into a list from its end to its start: none, that of one gate, and a run before another. At last the list ends with them all, and their
+-- bytes are the cascade (`cascade-laid`). Assumes nothing.
 use mathlib.Core.Path.{_≡_, refl, sym, ap, _∙_}
 use mathlib.Core.List.{List, [], _∷_, _++_, map, flatMap, flatten, map-append, append-nil, append-assoc}
 use Prim.Native.Nat.{ℕ, suc, _+_, _-_, _*_, _≤_, _<_}

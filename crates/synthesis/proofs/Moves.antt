@@ -1,4 +1,4 @@
--- The tables as the code moves them are those of the procedure: one digit that differs (`step-gate`), a row gate by gate (`row-none`, `row-skip`,
+-- The tables as the code moves them are those of the procedure: one digit that differs (`step-gate`), a row gate by gate (`row-at-start`, `row-skip`,
 -- `row-more`), the rows one
 -- by one (`rows-none`, `rows-more`), with the inverse kept beside the table. Assumes nothing.
 use mathlib.Core.Path.{_≡_, refl, sym, ap, _∙_}
@@ -60,9 +60,9 @@ exchanged-there n t v t′ v′ f z w e pair q =
 
 -- ---- a row, digit by digit
 
-pub row-none : (n i : ℕ) (t : List ℕ) → rowFrom n i 0 t ≡ begun t
+pub row-at-start : (n i : ℕ) (t : List ℕ) → rowFrom n i 0 t ≡ begun t
 unfolding rowSteps
-row-none n i t = refl
+row-at-start n i t = refl
 
 -- lines on which the entry has the digits of its row add nothing
 pub row-skip : (n i j k : ℕ) (t : List ℕ) → j ≤ k → ((l : ℕ) → j ≤ l → l < k → digit 3 l (getD (rowFrom n i j t .table) i 0) ≡ digit 3 l i)

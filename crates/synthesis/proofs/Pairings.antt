@@ -1,5 +1,5 @@
--- A table with its inverse beside it: two values change places by four stores (`table-stores`, `exchange-paired`), and the inverse that a check leaves is the
--- inverse on both sides (`present`), since a permutation reaches every pattern. Assumes nothing.
+-- A table with its inverse beside it: two values change places by four stores (`table-stores`, `exchange-paired`), and the inverse that a check
+-- leaves is the inverse on both sides (`present`), since a permutation reaches every pattern. Assumes nothing.
 use mathlib.Core.Path.{_≡_, sym, ap, _∙_}
 use mathlib.Core.List.{List, map}
 use Prim.Native.Nat.{ℕ, _^_, _≤_, _<_}

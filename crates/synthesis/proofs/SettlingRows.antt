@@ -1,5 +1,5 @@
--- A row as the code goes through it, a turn for each gate: `Settling` is its invariant, and a turn takes it to the line after the one on which a gate was added
--- (`settling-turn`). Assumes nothing.
+-- A row as the code goes through it, a turn for each gate: `Settling` is its invariant, and a turn takes it to the line after the one on which a gate
+-- was added (`settling-turn`). Assumes nothing.
 use mathlib.Core.Path.{_≡_, refl, sym, ap, subst, _∙_}
 use mathlib.Core.Logic.{⊎-elim}
 use mathlib.Core.List.{List, [], _∷_, map}
@@ -24,12 +24,13 @@ use Rattle.procedure.proofs.Swaps.{at-one}
 use Rattle.synthesis.specs.Synthesis.{gateFor}
 use Rattle.synthesis.specs.Inner.TableSteps.{stepFrom, rowFrom, Paired, Present, TableReached, fullControls, LowestLine, WordsLaid}
 use Rattle.synthesis.proofs.Controls.{full-line}
-use Rattle.synthesis.proofs.DifferingLines.{ones, differing, differing-past, differing-same, same-digits, differing-less, without-first}
+use Rattle.synthesis.proofs.DifferingLines.{ones, differingLines, differing-lines-past, differing-lines-same, same-digits, differing-lines-less, without-first}
 use Rattle.synthesis.proofs.Pairings.{present-permutation}
 use Rattle.synthesis.proofs.Layings.{laid-none, word-before, laid-more}
-use Rattle.synthesis.proofs.Moves.{still, exchanged-there, step-gate, row-none, row-skip, row-found, row-more, row-room}
+use Rattle.synthesis.proofs.Moves.{still, exchanged-there, step-gate, row-at-start, row-skip, row-found, row-more, row-room}
 
--- the lines below k are done: the tables are those of the procedure, and its gates' words stand before the end; a is the entry, from line k up as it came
+-- the lines below k are done: the tables are those of the procedure, and its gates' words stand before the end; a is the entry, from line k up as it
+-- came
 pub record Settling (n i from : ℕ) (t₀ ws₀ : List ℕ) (end : ℕ) (t v ws : List ℕ) (a left e : ℕ) : Type 0 where
   pub k : ℕ
   pub within : k ≤ n
@@ -38,17 +39,17 @@ pub record Settling (n i from : ℕ) (t₀ ws₀ : List ℕ) (end : ℕ) (t v ws
   pub entry : a ≡ getD t i 0
   pub done : (j : ℕ) → j < k → digit 3 j a ≡ digit 3 j i
   pub ahead : (j : ℕ) → k ≤ j → j < n → digit 3 j a ≡ digit 4 j from
-  pub lines : left ≡ differing n a i
+  pub lines : left ≡ differingLines n a i
 
 pub settling-start : (n i from to : ℕ) (t v ws : List ℕ) (e : ℕ) → Present n t v → from ≡ fullControls n (getD t i 0) → to ≡ fullControls n i
     → Settling n i from t ws e t v ws (getD t i 0) (ones (bitXor from to)) e
 settling-start n i from to t v ws e w ef et =
-    let none = row-none n i t in
+    let at-start = row-at-start n i t in
     record {
       k = 0;
       within = omega arith;
-      at = still _ _ _ _ w none;
-      laid = rw none (laid-none _ _);
+      at = still _ _ _ _ w at-start;
+      laid = rw at-start (laid-none _ _);
       entry = refl;
       done = λ j lt. absurd (omega arith);
       ahead = λ j le lt. rw ef (sym (full-line n (getD t i 0) (w .lines) j lt));
@@ -70,16 +71,16 @@ module _ (n i from : ℕ) (t₀ ws₀ : List ℕ) (end : ℕ) (t v ws : List ℕ
 
   module _ (k : ℕ) (w : LowestLine left k) (below : i < 3 ^ n) where
     pub line : k < n
-    line = ⊎-elim (λ (l : k < n). l) (λ (l : n ≤ k). absurd (omega (arith, w .some, ap (digit 4 k) (g .lines), differing-past n a i k l (w .line)))) (lt-or-le k n)
+    line = ⊎-elim (λ (l : k < n). l) (λ (l : n ≤ k). absurd (omega (arith, w .some, ap (digit 4 k) (g .lines), differing-lines-past n a i k l (w .line)))) (lt-or-le k n)
 
     from-here : g .k ≤ k
-    from-here = ⊎-elim (λ (l : k < g .k). absurd (omega (arith, w .some, ap (digit 4 k) (g .lines), differing-same n a i k (w .line) (g .done k l)))) (λ (l : g .k ≤ k). l) (lt-or-le k (g .k))
+    from-here = ⊎-elim (λ (l : k < g .k). absurd (omega (arith, w .some, ap (digit 4 k) (g .lines), differing-lines-same n a i k (w .line) (g .done k l)))) (λ (l : g .k ≤ k). l) (lt-or-le k (g .k))
 
     pub digit-came : digit 4 k from ≡ digit 3 k a
     digit-came = sym (g .ahead k from-here line)
 
     differs : digit 3 k a ≡ digit 3 k i → ⊥
-    differs e = omega (arith, w .some, ap (digit 4 k) (g .lines), differing-same n a i k (w .line) e)
+    differs e = omega (arith, w .some, ap (digit 4 k) (g .lines), differing-lines-same n a i k (w .line) e)
 
     at-line : TableReached n (rowFrom n i k t₀) t v
     at-line = rw (skip k from-here (omega (arith, line)) (w .none-before)) (g .at)
@@ -110,7 +111,7 @@ module _ (n i from : ℕ) (t₀ ws₀ : List ℕ) (end : ℕ) (t v ws : List ℕ
               sym (ap (λ (x : List ℕ). getD x i 0) et ∙ map-at (exchanged a b) t i 0 0 (omega (arith, g .at .present .size)) ∙ rw (← g .entry) (at-one a b));
           done = λ j lt. rw b-is (below-next j (omega arith) (ℕ-discrete j k));
           ahead = λ j lo lt. rw b-is (digit-put-other 3 j k a (digit 3 k i) (digit-lt 3 k i three-pos) (λ q. omega arith) ∙ g .ahead j (omega (arith, from-here)) lt);
-          lines = el ∙ rw (g .lines, b-is) (without-first n a i k (rw (g .lines) at w) ∙ differing-less n a i k (w .line));
+          lines = el ∙ rw (g .lines, b-is) (without-first n a i k (rw (g .lines) at w) ∙ differing-lines-less n a i k (w .line));
         }
       where
         below-next : (j : ℕ) → j ≤ k → Dec (j ≡ k) → digit 3 j (put 3 k a (digit 3 k i)) ≡ digit 3 j i

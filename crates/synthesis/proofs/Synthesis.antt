@@ -1,6 +1,6 @@
--- What the cascade of a permutation is worth: it computes the table (`synthesized-computes`), each of its gates is one on n lines (`synthesized-cascade`),
--- reversed and inverted it computes the inverse table (`synthesized-undone`), and it has no more gates than the bound (`synthesized-bound`).
--- These are the procedure's theorems for the ternary family. Assumes nothing.
+-- What the cascade of a permutation is worth: it computes the table (`synthesized-computes`), each of its gates is one on n lines
+-- (`synthesized-cascade`), reversed and inverted it computes the inverse table (`synthesized-undone`), and it has no more gates than the bound
+-- (`synthesized-bound`). These are the procedure's theorems for the ternary family. Assumes nothing.
 use mathlib.Core.Path.{_≡_, sym, ap, _∙_}
 use mathlib.Core.List.{List}
 use Prim.Native.Nat.{ℕ, zero, suc, _+_, _-_, _*_, _/_, _^_, _≤_, _<_}

@@ -1,4 +1,5 @@
--- The gates of the procedure are a family of exchanges, on up to six lines: a gate that controls every other line changes exactly two patterns. Assumes nothing.
+-- The gates of the procedure are a family of exchanges, on up to six lines: a gate that controls every other line changes exactly two patterns.
+-- Assumes nothing.
 use mathlib.Core.Path.{_≡_, refl, sym, ap, _∙_}
 use mathlib.Core.Logic.{_⊎_, ⊎-elim}
 use mathlib.Core.Bool.{true, false}
@@ -46,8 +47,8 @@ module _ (n : ℕ) (lines : n ≤ 6) (k a d : ℕ) (w : Asked 3 n k a d) where
       ∙ ap (put 3 k a) (exchanger-there (digit 3 k a) d (digit-lt 3 k a three-pos) (w .value) (w .differs))
 
   -- a pattern on which it fires is a with another digit k
-  fires-put : (p : ℕ) → p < 3 ^ n → fires (gateFor n k a d) p ≡ true → (x : ℕ) → x < 3 → digit 3 k p ≡ x → p ≡ put 3 k a x
-  fires-put p lp e x lx ex =
+  fires-only-put : (p : ℕ) → p < 3 ^ n → fires (gateFor n k a d) p ≡ true → (x : ℕ) → x < 3 → digit 3 k p ≡ x → p ≡ put 3 k a x
+  fires-only-put p lp e x lx ex =
       digits-equal 3 n p (put 3 k a x) three-pos lp (put-lt 3 n k a x (w .pattern) (w .line) lx) (λ j lt. same j lt (ℕ-discrete j k))
     where
       same : (j : ℕ) → j < n → Dec (j ≡ k) → digit 3 j p ≡ digit 3 j (put 3 k a x)
@@ -62,7 +63,7 @@ module _ (n : ℕ) (lines : n ≤ 6) (k a d : ℕ) (w : Asked 3 n k a d) where
       third : fires (gateFor n k a d) p ≡ true → act (exchanger (digit 3 k a) d) (digit 3 k p) ≡ digit 3 k p
       third e =
           exchanger-third (digit 3 k a) d (digit 3 k p) (digit-lt 3 k a three-pos) (w .value) (digit-lt 3 k p three-pos) (w .differs)
-          (λ q. na (fires-put p lp e (digit 3 k a) (digit-lt 3 k a three-pos) q ∙ put-same 3 k a)) (λ q. nb (fires-put p lp e d (w .value) q))
+          (λ q. na (fires-only-put p lp e (digit 3 k a) (digit-lt 3 k a three-pos) q ∙ put-same 3 k a)) (λ q. nb (fires-only-put p lp e d (w .value) q))
 
 pub ternary : (n : ℕ) → n ≤ 6 → Exchanges 3 applied gateFor n
 ternary n lines =

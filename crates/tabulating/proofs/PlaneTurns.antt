@@ -42,10 +42,10 @@ other-line g p k ne = go (fires g p) refl
     go false e = rw (applied-no g p e)
 
 -- a control of value d is content with the target after the gate
-moved : (g : Gate) (p d : ℕ) → 1 ≤ g .operator → g .operator ≤ 5 → d < 3
+target-moved : (g : Gate) (p d : ℕ) → 1 ≤ g .operator → g .operator ≤ 5 → d < 3
     → holds d (digit 3 (g .target) (applied g p))
     ≡ cond (fires g p) (holds (act (inverseOp (g .operator)) d) (digit 3 (g .target) p)) (holds d (digit 3 (g .target) p))
-moved g p d low high ld = go (fires g p) refl
+target-moved g p d low high ld = go (fires g p) refl
   where
     go : (b : Bool) → fires g p ≡ b
         → holds d (digit 3 (g .target) (applied g p))
@@ -81,7 +81,7 @@ module _ (g : Gate) (n : ℕ) (b old : List ℕ) (f : ℕ → ℕ) (ok : GateOnP
   turned-word d s firing j w ld es fired turned p lp e =
       turned (p % 64)
       ∙ rw (fired p lp e, ← e, es, shows .plane (g .target) (act (inverseOp (g .operator)) d) (ok .on-line) (omega (arith, act-lt (inverseOp (g .operator)) d)) p lp, shows .plane (g .target) d (ok .on-line) (omega arith) p lp)
-      (sym (moved g (f p) d (ok .op-low) (ok .op-high) ld))
+      (sym (target-moved g (f p) d (ok .op-low) (ok .op-high) ld))
 
   -- and for 2, where the line holds neither 0 nor 1
   pub neither-word : (j x y : ℕ) → PlaneWord n j x (heldAfter g f 0) → PlaneWord n j y (heldAfter g f 1) → PlaneWord n j (bitXor (bitOr x y) 0xffff_ffff_ffff_ffff) (heldAfter g f 2)

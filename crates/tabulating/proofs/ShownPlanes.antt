@@ -1,5 +1,5 @@
--- What planes say: `entry-shown`, that the entry for an input is the pattern that they show, and so `shown-table`, that they have the table of the gates
--- that they went through. Assumes nothing.
+-- What planes say: `entry-shown`, that the entry for an input is the pattern that they show, and so `shown-table`, that they have the table of the
+-- gates that they went through. Assumes nothing.
 use mathlib.Core.Path.{_≡_, refl}
 use mathlib.Core.Bool.{cond}
 use mathlib.Core.List.{List}

@@ -1,5 +1,5 @@
--- The planes of inputs that no gate has touched: `untouched-start`, `untouched-next` and `untouched-shows` are the start, one turn and the end of the loop over inputs and
--- lines that makes them. Assumes nothing.
+-- The planes of inputs that no gate has touched: `untouched-start`, `untouched-next` and `untouched-shows` are the start, one turn and the end of the
+-- loop over inputs and lines that makes them. Assumes nothing.
 use mathlib.Core.Path.{_≡_, refl, sym, _∙_}
 use mathlib.Core.Bool.{true, or-true, or-false}
 use mathlib.Core.List.{List}

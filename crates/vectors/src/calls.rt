@@ -1,7 +1,6 @@
 // The calls, each by the function that C callers get, and what is shown of them.
-ghost use Prim.Native.Nat.{_≤_};
-use crate::heads::Case;
-use crate::lines;
+use crate::heads::StoredCase;
+use crate::lines::print_case;
 use exports::Numbers;
 use fingerprints::EMPTY;
 use fingerprints::digest_bytes;
@@ -17,20 +16,12 @@ pub fn takes_entries(call: u32) -> bool {
     call == 5
 }
 
-// How much is lent of something: nothing where the call doesn't take it.
-pub fn lent(taken: bool, size: usize) -> usize
-    ensures { λ r. ⌜ r ≤ size ⌝ }
-{
-    if taken { size } else { 0 }
-}
-
-// What the call answers.
-fn answer(
-    case: Case,
+// What a call answers whose room is one for bytes.
+fn perform(
+    case: StoredCase,
     table: &[u16],
     bytes: &mut [u8],
     more: &[u8],
-    entries: &mut [u16],
     room: &mut [u8],
     note: &mut [u8],
 ) -> Numbers {
@@ -41,7 +32,6 @@ fn answer(
         2 => exports::tiles_synthesize(lines, table, room),
         3 => exports::tiles_check_cascade(lines, bytes),
         4 => exports::tiles_run(lines, bytes, case.pattern),
-        5 => exports::tiles_tabulate(lines, bytes, entries),
         6 => exports::tiles_invert(lines, bytes, room),
         7 => exports::tiles_price(lines, case.value, bytes),
         8 => exports::tiles_tidy(lines, bytes),
@@ -63,42 +53,51 @@ fn digest_given(call: u32, table: &[u16], bytes: &[u8]) -> u32 {
     }
 }
 
-fn digest_room(call: u32, entries: &[u16], room: &[u8]) -> u32 {
-    if takes_entries(call) {
-        digest_entries(EMPTY, entries)
-    } else {
-        digest_bytes(EMPTY, room)
-    }
-}
-
 // What cheaper hands back.
 fn digest_cheaper<'a>(lines: u8, value: u8, first: &'a [u8], second: &'a [u8]) -> u32 {
     digest_bytes(EMPTY, choice::cheaper(lines, value, first, second))
 }
 
 // Performs the call and prints its line. In choose, which has no room, what cheaper hands back stands for it.
-pub fn show(
-    case: Case,
+pub fn show_call(
+    case: StoredCase,
     table: &[u16],
     bytes: &mut [u8],
     more: &[u8],
-    entries: &mut [u16],
     room: &mut [u8],
     note: &mut [u8],
 ) {
     let call = case.call;
-    let told = answer(case, table, bytes, more, entries, room, note);
+    let told = perform(case, table, bytes, more, room, note);
     let of_room = if call == 9 {
         digest_cheaper(case.lines, case.value, bytes, more)
     } else {
-        digest_room(call, entries, room)
+        digest_bytes(EMPTY, room)
     };
-    lines::print(
+    print_case(
         call,
         told,
         digest_given(call, table, bytes),
         digest_bytes(EMPTY, more),
         of_room,
+        digest_bytes(EMPTY, note),
+    );
+}
+
+// The same of tabulate.
+pub fn show_tabulate(
+    case: StoredCase,
+    bytes: &[u8],
+    more: &[u8],
+    entries: &mut [u16],
+    note: &[u8],
+) {
+    print_case(
+        case.call,
+        exports::tiles_tabulate(case.lines, bytes, entries),
+        digest_bytes(EMPTY, bytes),
+        digest_bytes(EMPTY, more),
+        digest_entries(EMPTY, entries),
         digest_bytes(EMPTY, note),
     );
 }

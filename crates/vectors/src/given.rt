@@ -3,7 +3,7 @@
 ghost use Prim.Native.Nat.{_*_, _≤_};
 ghost use lib.ListN.{length};
 use crate::calls;
-use crate::heads::Case;
+use crate::heads::StoredCase;
 use crate::rooms;
 
 // The record again and again.
@@ -29,7 +29,7 @@ fn lay_bytes(record: &[u8], times: u32, bytes: &mut [u8]) -> bool
 }
 
 // Two bytes, the low one first.
-fn entry(low: u8, high: u8) -> u16 {
+fn join_bytes(low: u8, high: u8) -> u16 {
     low as u16 + 256 * high as u16
 }
 
@@ -39,14 +39,14 @@ fn lay_table(bytes: &[u8], table: &mut [u16])
 {
     let mut k: usize = 0;
     while k < table.len() {
-        table[k] = entry(bytes[2 * k], bytes[2 * k + 1]);
+        table[k] = join_bytes(bytes[2 * k], bytes[2 * k + 1]);
         k += 1;
     }
 }
 
 // Fills the memory with what the case gives, and goes on.
 fn show_laid(
-    case: Case,
+    case: StoredCase,
     record: &[u8],
     table: &mut [u16],
     bytes: &mut [u8],
@@ -64,12 +64,19 @@ fn show_laid(
         return false;
     }
     lay_table(bytes, table);
-    rooms::show(case, table, bytes, more)
+    rooms::show_in_rooms(case, table, bytes, more)
+}
+
+// How much is lent of something: nothing where the call doesn't take it.
+fn lent(taken: bool, size: usize) -> usize
+    ensures { λ r. ⌜ r ≤ size ⌝ }
+{
+    if taken { size } else { 0 }
 }
 
 // Lends as much as the case gives, if there is as much.
-fn show_part(
-    case: Case,
+fn lend_given(
+    case: StoredCase,
     record: &[u8],
     table: &mut [u16],
     bytes: &mut [u8],
@@ -79,7 +86,7 @@ fn show_part(
 {
     let in_bytes = 8 * case.times as usize + case.stored as usize;
     let in_more = 8 * case.more_times as usize + case.more_stored as usize;
-    let tabled = calls::lent(calls::takes_table(case.call), in_bytes);
+    let tabled = lent(calls::takes_table(case.call), in_bytes);
     let in_table = tabled / 2;
     if in_bytes > bytes.len() || in_more > more.len() || tabled % 2 > 0 || in_table > table.len() {
         return false;
@@ -94,11 +101,11 @@ fn show_part(
 }
 
 // Reads what the case gives, performs its call and prints its line; false where it has more than it may, or the input ends before it.
-pub fn show(case: Case, record: &[u8]) -> bool
+pub fn show_case(case: StoredCase, record: &[u8]) -> bool
     requires { ⌜ 8 ≤ length (now «record») ⌝ }
 {
     let mut table = [0u16; 1024];
     let mut bytes = [0u8; 65536];
     let mut more = [0u8; 65536];
-    show_part(case, record, &mut table, &mut bytes, &mut more)
+    lend_given(case, record, &mut table, &mut bytes, &mut more)
 }

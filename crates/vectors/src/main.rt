@@ -5,7 +5,7 @@ mod heads;
 mod lines;
 mod rooms;
 
-use heads::Found;
+use heads::ParsedHead;
 
 // Shows the next case; false where the input has none.
 fn show_next() -> bool {
@@ -13,10 +13,10 @@ fn show_next() -> bool {
     if io::read_full(0, &mut head) < 68 {
         return false;
     }
-    let Found::Case(case) = heads::find(&head) else {
+    let ParsedHead::Case(case) = heads::find_case(&head) else {
         return false;
     };
-    given::show(case, &head[60..])
+    given::show_case(case, &head[60..])
 }
 
 // Shows so many cases, or as many as the input has before something that is none.
@@ -30,6 +30,6 @@ fn show_all(count: u32) {
 fn main() {
     let mut count = [0u8; 4];
     if io::read_full(0, &mut count) == 4 {
-        show_all(heads::word(&count, 0));
+        show_all(heads::read_u32(&count, 0));
     }
 }

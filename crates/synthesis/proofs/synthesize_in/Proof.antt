@@ -1,5 +1,5 @@
--- `synthesis::synthesize_in` meets its contract: each return is a case of the answer, by what the check said, and the arrays are long enough for any table and
--- its cascade. Assumes nothing.
+-- `synthesis::synthesize_in` meets its contract: each return is a case of the answer, by what the check said, and the arrays are long enough for any
+-- table and its cascade. Assumes nothing.
 use denote.Ref.{now}
 use mathlib.Core.Path.{_≡_, sym, ap, _∙_}
 use mathlib.Core.List.{List, []}

@@ -1,20 +1,26 @@
 -- `digests::adding::add_table` is safe: the records that are told lie within the room. Assumes nothing.
 use mathlib.Core.Path.{sym, ap, _∙_}
-use Prim.Native.Nat.{_*_, _≤_}
+use mathlib.Core.List.{List}
+use Prim.Native.Nat.{ℕ, _*_, _≤_}
 use lib.ListN.{length}
 use lib.Seq.{length-take-le}
 use native.Mathlib.Omega.{arith}
 use Rattle.cascades.specs.Answers.{countedAs}
-use Rattle.digests.proofs.Fits.{cascade-fits}
+use Rattle.digests.proofs.Fits.{synthesized-fits}
 use borrow.Author.Needs.{needs}
 use Rattle.digests.proofs.adding.add_table.Statement.{statement}
 use Rattle.digests.proofs.adding.add_table.Tie as tie
 
 module _ (c : tie.After-known-told) where
-  within : 8 * c .before .m .given .0 .0 ≤ length (c .before .before .before .before .before .synthesize .last .1 .1 .0)
-  within =
-      let d = c .before .before .before .before .before in
-      rw (d .synthesize .kept .1 .1 .0) (cascade-fits _ _ _ _ (ap countedAs (sym (c .before .m .given .1)) ∙ d .synthesize .ensures .0))
+  -- the number that the call has told, and what it has left in the room
+  abbrev told : ℕ
+  told = c .before .m .given .0 .0
+
+  abbrev left-there : List ℕ
+  left-there = c .before .before .before .before .before .synthesize .last .1 .1 .0
+
+  within : 8 * told ≤ length left-there
+  within = rw (c .before .before .before .before .room .given) (synthesized-fits _ _ _ _ (ap countedAs (sym (c .before .m .given .1)) ∙ c .before .before .before .before .before .synthesize .ensures .0))
 
 synthesize-requires : tie.Need-synthesize-requires
 synthesize-requires c κs = search needs

@@ -1,20 +1,26 @@
 -- `digests::adding::add_tidied` is safe: the records left lie within the cascade. Assumes nothing.
 use mathlib.Core.Path.{sym, ap, _∙_}
-use Prim.Native.Nat.{_*_, _≤_}
+use mathlib.Core.List.{List}
+use Prim.Native.Nat.{ℕ, _*_, _≤_}
 use lib.ListN.{length}
 use lib.Seq.{length-take-le}
 use native.Mathlib.Omega.{arith}
 use Rattle.tidying.specs.Answers.{tidiedAs}
-use Rattle.digests.proofs.Fits.{left-fits}
+use Rattle.digests.proofs.Fits.{tidied-fits}
 use borrow.Author.Needs.{needs}
 use Rattle.digests.proofs.adding.add_tidied.Statement.{statement}
 use Rattle.digests.proofs.adding.add_tidied.Tie as tie
 
 module _ (c : tie.After-known-told) where
-  within : 8 * c .before .left .given .0 .0 ≤ length (c .before .before .before .before .before .tidy .last .1 .0)
-  within =
-      let d = c .before .before .before .before .before in
-      rw (d .tidy .kept .1 .0) (left-fits _ _ _ _ (ap tidiedAs (sym (c .before .left .given .1)) ∙ d .tidy .ensures .0))
+  -- the number that the call has told, and what it has left in the cascade
+  abbrev told : ℕ
+  told = c .before .left .given .0 .0
+
+  abbrev left-there : List ℕ
+  left-there = c .before .before .before .before .before .tidy .last .1 .0
+
+  within : 8 * told ≤ length left-there
+  within = rw (c .before .before .before .before .cascade .given) (tidied-fits _ _ _ _ (ap tidiedAs (sym (c .before .left .given .1)) ∙ c .before .before .before .before .before .tidy .ensures .0))
 
 tidy-requires : tie.Need-tidy-requires
 tidy-requires c κs = search needs

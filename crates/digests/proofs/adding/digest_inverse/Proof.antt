@@ -1,6 +1,7 @@
 -- `digests::adding::digest_inverse` is safe: the records that are told lie within the room. Assumes nothing.
 use mathlib.Core.Path.{sym, ap, _∙_}
-use Prim.Native.Nat.{_*_, _≤_}
+use mathlib.Core.List.{List}
+use Prim.Native.Nat.{ℕ, _*_, _≤_}
 use lib.ListN.{length}
 use lib.Seq.{length-take-le}
 use native.Mathlib.Omega.{arith}
@@ -11,10 +12,15 @@ use Rattle.digests.proofs.adding.digest_inverse.Statement.{statement}
 use Rattle.digests.proofs.adding.digest_inverse.Tie as tie
 
 module _ (c : tie.After-known-told) where
-  within : 8 * c .before .m .given .0 .0 ≤ length (c .before .before .before .before .before .invert .last .1 .1 .0)
-  within =
-      let d = c .before .before .before .before .before in
-      rw (d .invert .kept .1 .1 .0) (inverse-fits _ _ _ _ (ap countedAs (sym (c .before .m .given .1)) ∙ d .invert .ensures .0))
+  -- the number that the call has told, and what it has left in the inverse
+  abbrev told : ℕ
+  told = c .before .m .given .0 .0
+
+  abbrev left-there : List ℕ
+  left-there = c .before .before .before .before .before .invert .last .1 .1 .0
+
+  within : 8 * told ≤ length left-there
+  within = rw (c .before .before .before .before .inverse .given) (inverse-fits _ _ _ _ (ap countedAs (sym (c .before .m .given .1)) ∙ c .before .before .before .before .before .invert .ensures .0))
 
 invert-requires : tie.Need-invert-requires
 invert-requires c κs = search needs

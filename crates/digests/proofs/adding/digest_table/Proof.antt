@@ -1,6 +1,7 @@
 -- `digests::adding::digest_table` is safe: the entries that are told lie within the room. Assumes nothing.
 use mathlib.Core.Path.{sym, ap, _∙_}
-use Prim.Native.Nat.{_≤_}
+use mathlib.Core.List.{List}
+use Prim.Native.Nat.{ℕ, _≤_}
 use lib.ListN.{length}
 use lib.Seq.{length-take-le}
 use Rattle.tabulating.specs.Tabulating.{tabulatedAs}
@@ -10,10 +11,15 @@ use Rattle.digests.proofs.adding.digest_table.Statement.{statement}
 use Rattle.digests.proofs.adding.digest_table.Tie as tie
 
 module _ (c : tie.After-known-told) where
-  within : c .before .size .given .0 .0 ≤ length (c .before .before .before .before .before .tabulate .last .1 .1 .0)
-  within =
-      let d = c .before .before .before .before .before in
-      rw (d .tabulate .kept .1 .1 .0) (table-fits _ _ _ _ (ap tabulatedAs (sym (c .before .size .given .1)) ∙ d .tabulate .ensures .0))
+  -- the number that the call has told, and what it has left in the entries
+  abbrev told : ℕ
+  told = c .before .size .given .0 .0
+
+  abbrev left-there : List ℕ
+  left-there = c .before .before .before .before .before .tabulate .last .1 .1 .0
+
+  within : told ≤ length left-there
+  within = rw (c .before .before .before .before .entries .given) (table-fits _ _ _ _ (ap tabulatedAs (sym (c .before .size .given .1)) ∙ c .before .before .before .before .before .tabulate .ensures .0))
 
 tabulate-requires : tie.Need-tabulate-requires
 tabulate-requires c κs = search needs

@@ -6,17 +6,20 @@ use Rattle.digests.proofs.families.sum_cascades.Statement.{statement}
 use Rattle.digests.proofs.families.sum_cascades.Tie as tie
 
 abbrev Inv-loop : tie.InvT-loop
-Inv-loop dense lines seed count cascade₀ inverse₀ entries₀ sums₀ state₀ left₀ cascade inverse entries sums state left =
+Inv-loop dense drawn cascade₀ inverse₀ entries₀ sums₀ state₀ left₀ cascade inverse entries sums state left =
     (length cascade ≡ length cascade₀) × (length inverse ≡ length inverse₀) × (length entries ≡ length entries₀)
 
 abbrev μ-loop : tie.MeasureT-loop
-μ-loop dense lines seed count cascade₀ inverse₀ entries₀ sums₀ state₀ left₀ cascade inverse entries sums state left = left
+μ-loop dense drawn cascade₀ inverse₀ entries₀ sums₀ state₀ left₀ cascade inverse entries sums state left = left
 
 nothing-requires : tie.Need-nothing-requires Inv-loop μ-loop
 nothing-requires c κs = search needs
 
 loop-holds : tie.Need-loop-holds Inv-loop μ-loop
 loop-holds c = search needs
+
+cast-draw-cascade : tie.Need-cast-draw-cascade Inv-loop μ-loop
+cast-draw-cascade c = search needs
 
 draw-cascade-requires : tie.Need-draw-cascade-requires Inv-loop μ-loop
 draw-cascade-requires c κs = search needs
@@ -53,6 +56,7 @@ sum-cascades-spec =
     μ-loop
     nothing-requires
     loop-holds
+    cast-draw-cascade
     draw-cascade-requires
     add-cascade-requires
     sub-left

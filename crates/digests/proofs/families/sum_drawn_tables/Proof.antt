@@ -6,11 +6,11 @@ use Rattle.digests.proofs.families.sum_drawn_tables.Statement.{statemen
 use Rattle.digests.proofs.families.sum_drawn_tables.Tie as tie
 
 abbrev Inv-loop : tie.InvT-loop
-Inv-loop lines seed count table₀ room₀ inverse₀ entries₀ sums₀ state₀ left₀ table room inverse entries sums state left =
+Inv-loop drawn table₀ room₀ inverse₀ entries₀ sums₀ state₀ left₀ table room inverse entries sums state left =
     (length table ≡ length table₀) × (length room ≡ length room₀) × (length inverse ≡ length inverse₀) × (length entries ≡ length entries₀)
 
 abbrev μ-loop : tie.MeasureT-loop
-μ-loop lines seed count table₀ room₀ inverse₀ entries₀ sums₀ state₀ left₀ table room inverse entries sums state left = left
+μ-loop drawn table₀ room₀ inverse₀ entries₀ sums₀ state₀ left₀ table room inverse entries sums state left = left
 
 nothing-requires : tie.Need-nothing-requires Inv-loop μ-loop
 nothing-requires c κs = search needs

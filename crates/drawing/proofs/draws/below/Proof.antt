@@ -1,4 +1,4 @@
--- `digests::draws::below` meets its contract: a remainder is below its divisor. Assumes nothing.
+-- `drawing::draws::below` meets its contract: a remainder is below its divisor. Assumes nothing.
 use native.Mathlib.Nat.{mod-lt}
 use borrow.Author.Needs.{needs}
 use Rattle.drawing.proofs.draws.below.Statement.{statement}

@@ -1,4 +1,4 @@
--- `digests::draws::copy_record` is safe and ends: eight bytes lie behind both places, and the room keeps its length. Assumes nothing.
+-- `drawing::draws::copy_record` is safe and ends: eight bytes lie behind both places, and the room keeps its length. Assumes nothing.
 use mathlib.Core.Path.{_≡_}
 use Prim.Native.Nat.{_-_}
 use lib.ListN.{length}

@@ -1,4 +1,4 @@
--- `digests::draws::draw_controls` is safe and ends: six bytes lie behind the place, and the room keeps its length. Assumes nothing.
+-- `drawing::draws::draw_controls` is safe and ends: six bytes lie behind the place, and the room keeps its length. Assumes nothing.
 use mathlib.Core.Path.{_≡_}
 use Prim.Native.Nat.{_-_}
 use lib.ListN.{length}

@@ -1,4 +1,4 @@
--- `digests::draws::draw_gate` is safe: eight bytes lie behind the place, and stores keep the length. Assumes nothing.
+-- `drawing::draws::draw_gate` is safe: eight bytes lie behind the place, and stores keep the length. Assumes nothing.
 use lib.ListN.{length-set}
 use native.Mathlib.Omega.{arith}
 use borrow.Author.Needs.{needs}

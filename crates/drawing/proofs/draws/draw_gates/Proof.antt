@@ -1,4 +1,4 @@
--- `digests::draws::draw_gates` is safe and ends: each record lies within the room, which keeps its length. Assumes nothing.
+-- `drawing::draws::draw_gates` is safe and ends: each record lies within the room, which keeps its length. Assumes nothing.
 use mathlib.Core.Path.{_≡_}
 use Prim.Native.Nat.{_-_, _*_, _≤_}
 use lib.ListN.{length}

@@ -1,4 +1,5 @@
--- `digests::draws::draw_kinds` is safe and ends: each record lies within the room, which keeps its length, and each kind within the kinds. Assumes nothing.
+-- `drawing::draws::draw_kinds` is safe and ends: each record lies within the room, which keeps its length, and each kind within the kinds. Assumes
+-- nothing.
 use mathlib.Core.Path.{_≡_}
 use Prim.Native.Nat.{_-_, _*_, _≤_}
 use lib.ListN.{length}

@@ -1,4 +1,4 @@
--- `digests::draws::draw_table` is safe and ends: both places lie within the table, which keeps its length. Assumes nothing.
+-- `drawing::draws::draw_table` is safe and ends: both places lie within the table, which keeps its length. Assumes nothing.
 use mathlib.Core.Path.{_≡_}
 use Prim.Native.Nat.{_≤_}
 use lib.ListN.{length}
@@ -27,8 +27,8 @@ below-requires c κs = search needs
 sub-end : tie.Need-sub-end Inv-loop μ-loop
 sub-end c = search needs
 
-exchange-requires : tie.Need-exchange-requires Inv-loop μ-loop
-exchange-requires c κs = search needs
+exchange-entries-requires : tie.Need-exchange-entries-requires Inv-loop μ-loop
+exchange-entries-requires c κs = search needs
 
 loop-less : tie.Need-loop-less Inv-loop μ-loop
 loop-less c = search needs
@@ -53,7 +53,7 @@ draw-table-spec =
     advance-requires
     below-requires
     sub-end
-    exchange-requires
+    exchange-entries-requires
     loop-less
     loop-again
     same-length

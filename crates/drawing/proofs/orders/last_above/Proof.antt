@@ -1,4 +1,4 @@
--- `digests::orders::last_above` meets its contract: the place stays within the table. Assumes nothing.
+-- `drawing::orders::last_above` meets its contract: the place stays within the table. Assumes nothing.
 use Prim.Native.Nat.{_≤_}
 use lib.ListN.{length}
 use borrow.Author.Needs.{needs}

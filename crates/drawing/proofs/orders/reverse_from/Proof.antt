@@ -1,4 +1,4 @@
--- `digests::orders::reverse_from` is safe and ends: both places stay within the table, which keeps its length. Assumes nothing.
+-- `drawing::orders::reverse_from` is safe and ends: both places stay within the table, which keeps its length. Assumes nothing.
 use mathlib.Core.Path.{_≡_}
 use Prim.Native.Nat.{_≤_}
 use lib.ListN.{length}
@@ -21,8 +21,8 @@ add-loop c = search needs
 sub-b : tie.Need-sub-b Inv-loop μ-loop
 sub-b c = search needs
 
-exchange-requires : tie.Need-exchange-requires Inv-loop μ-loop
-exchange-requires c κs = search needs
+exchange-entries-requires : tie.Need-exchange-entries-requires Inv-loop μ-loop
+exchange-entries-requires c κs = search needs
 
 add-a : tie.Need-add-a Inv-loop μ-loop
 add-a c = search needs
@@ -48,7 +48,7 @@ reverse-from-spec =
     loop-holds
     add-loop
     sub-b
-    exchange-requires
+    exchange-entries-requires
     add-a
     loop-less
     loop-again

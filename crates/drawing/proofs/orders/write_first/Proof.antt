@@ -1,4 +1,4 @@
--- `digests::orders::write_first` is safe and ends: a place of a table fits its entries, and the table keeps its length. Assumes nothing.
+-- `drawing::orders::write_first` is safe and ends: a place of a table fits its entries, and the table keeps its length. Assumes nothing.
 use mathlib.Core.Path.{_≡_}
 use Prim.Native.Nat.{_-_}
 use lib.ListN.{length}

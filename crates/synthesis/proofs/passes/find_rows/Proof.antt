@@ -37,7 +37,7 @@ name-patterns-requires : tie.Need-name-patterns-requires Inv-loop μ-loop
 name-patterns-requires c κs = let w = c .before .before .before .before .before .pre in (w .0 .lines, w .1)
 
 loop-holds : tie.Need-loop-holds Inv-loop μ-loop
-loop-holds c = let none = rows-none _ _ in record { within = omega arith; at = still _ _ _ _ (c .before .before .before .before .before .before .before .before .pre .0) none; laid = rw none (laid-none _ _) }
+loop-holds c = let at-start = rows-none _ _ in record { within = omega arith; at = still _ _ _ _ (c .before .before .before .before .before .before .before .before .pre .0) at-start; laid = rw at-start (laid-none _ _) }
 
 find-row-requires : tie.Need-find-row-requires Inv-loop μ-loop
 find-row-requires c κs =

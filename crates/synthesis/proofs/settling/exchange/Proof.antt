@@ -1,4 +1,5 @@
--- `synthesis::settling::exchange` meets its contract: the rows of the two values are rows of the table, and the stores are those of `Pairings`. Assumes nothing.
+-- `synthesis::settling::exchange` meets its contract: the rows of the two values are rows of the table, and the stores are those of `Pairings`.
+-- Assumes nothing.
 use denote.Ref.{now}
 use Prim.Native.Nat.{_<_}
 use lib.ListN.{length, getD, length-set}

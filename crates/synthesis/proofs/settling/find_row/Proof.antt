@@ -12,7 +12,7 @@ use Rattle.digits.proofs.Sizes.{three-pos, patterns-most}
 use Rattle.gates.specs.Records.{recordOf}
 use Rattle.synthesis.specs.Inner.TableSteps.{fullControls, RowToSettle}
 use Rattle.synthesis.proofs.Controls.{full-lt, full-line}
-use Rattle.synthesis.proofs.DifferingLines.{differing-lt}
+use Rattle.synthesis.proofs.DifferingLines.{differing-lines-lt}
 use Rattle.synthesis.proofs.Pairings.{present-permutation, same-sizes}
 use Rattle.synthesis.proofs.SettlingRows.{Settling, settling-start, settling-end, entry-below, line, digit-came, some-room, settling-turn, on-lines}
 use borrow.Author.Needs.{needs}
@@ -52,7 +52,7 @@ module _ (c : tie.At-loop Inv-loop μ-loop) where
   going = c .loop .inv (n start) (row start .present .size)
 
   low : c .loop .left < 4 ^ 6
-  low = rw (going .lines) (differing-lt (n start) (c .loop .a) (start .args .i))
+  low = rw (going .lines) (differing-lines-lt (n start) (c .loop .a) (start .args .i))
 
   present-lt : c .loop .a < 3 ^ (n start)
   present-lt = entry-below _ _ _ _ _ _ _ _ _ _ _ _ going (row start .row)

@@ -15,23 +15,23 @@ abbrev μ-loop : tie.MeasureT-loop
 loop-holds : tie.Need-loop-holds Inv-loop μ-loop
 loop-holds c = search needs
 
-mul-entry : tie.Need-mul-entry Inv-loop μ-loop
-mul-entry c = search needs
+mul-join-bytes : tie.Need-mul-join-bytes Inv-loop μ-loop
+mul-join-bytes c = search needs
 
-shared-slice-read-entry : tie.Need-shared-slice-read-entry Inv-loop μ-loop
-shared-slice-read-entry c = search needs
+shared-slice-read-join-bytes : tie.Need-shared-slice-read-join-bytes Inv-loop μ-loop
+shared-slice-read-join-bytes c = search needs
 
-mul-entry-2 : tie.Need-mul-entry-2 Inv-loop μ-loop
-mul-entry-2 c = search needs
+mul-join-bytes-2 : tie.Need-mul-join-bytes-2 Inv-loop μ-loop
+mul-join-bytes-2 c = search needs
 
-add-entry : tie.Need-add-entry Inv-loop μ-loop
-add-entry c = search needs
+add-join-bytes : tie.Need-add-join-bytes Inv-loop μ-loop
+add-join-bytes c = search needs
 
-shared-slice-read-entry-2 : tie.Need-shared-slice-read-entry-2 Inv-loop μ-loop
-shared-slice-read-entry-2 c = search needs
+shared-slice-read-join-bytes-2 : tie.Need-shared-slice-read-join-bytes-2 Inv-loop μ-loop
+shared-slice-read-join-bytes-2 c = search needs
 
-entry-requires : tie.Need-entry-requires Inv-loop μ-loop
-entry-requires c κs = search needs
+join-bytes-requires : tie.Need-join-bytes-requires Inv-loop μ-loop
+join-bytes-requires c κs = search needs
 
 mul-table : tie.Need-mul-table Inv-loop μ-loop
 mul-table c = search needs
@@ -61,12 +61,12 @@ lay-table-spec =
     Inv-loop
     μ-loop
     loop-holds
-    mul-entry
-    shared-slice-read-entry
-    mul-entry-2
-    add-entry
-    shared-slice-read-entry-2
-    entry-requires
+    mul-join-bytes
+    shared-slice-read-join-bytes
+    mul-join-bytes-2
+    add-join-bytes
+    shared-slice-read-join-bytes-2
+    join-bytes-requires
     mul-table
     slice-write-table
     add-k
