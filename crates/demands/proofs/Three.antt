@@ -17,7 +17,6 @@ use Rattle.synthesis.specs.Synthesis.{bound, synthesized}
 use Rattle.synthesis.proofs.Synthesis.{synthesized-bound}
 use Rattle.rules.specs.Rules.{fits}
 use Rattle.rules.specs.Tidying.{gate, isOpen, gatesAndControls, tidied, tidyAnswer}
-use Rattle.rules.proofs.Endings.{Procedure}
 use Rattle.rules.proofs.Promises.{tidied-keeps, tidied-count, tidied-cost, tidied-cascade, tidied-ends, tidied-steps, tidied-few}
 use Rattle.demands.proofs.One.{check-cascade, tidy}
 

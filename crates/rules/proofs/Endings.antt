@@ -1,5 +1,5 @@
 -- Steps repeated until none fits: gates plus controls fall with each step, so the repetition ends within as many steps, and ends where nothing fits.
--- `Procedure` says it without the bound that the definition counts down, and has one answer only. Assumes nothing.
+-- `Repetition` says it without the bound that the definition counts down, and has one answer only. Assumes nothing.
 use mathlib.Core.Path.{_≡_, refl, sym, ap, _∙_, subst}
 use mathlib.Core.Logic.{⊎-elim}
 use mathlib.Core.Bool.{Bool, true, false}
@@ -14,7 +14,7 @@ use Rattle.ranges.proofs.Bools.{decide, clash}
 use Rattle.ranges.proofs.Searches.{found}
 use Rattle.gates.specs.declared.Gate.{Gate}
 use Rattle.rules.specs.Rules.{fits}
-use Rattle.rules.specs.Tidying.{gate, isOpen, fitting, firstJ, firstI, untidy, step, Outcome, tidiedWithin, gatesAndControls, tidied}
+use Rattle.rules.specs.Tidying.{gate, isOpen, fitting, firstJ, firstI, untidy, step, afterSteps, Outcome, Repetition, tidiedWithin, gatesAndControls, tidied}
 use Rattle.rules.proofs.TidySteps.{stepped-gates-and-controls, step-stepped}
 
 -- ---- one look at the list
@@ -41,11 +41,6 @@ goes-on m gs u = rw (u, tidiedWithin)
 
 -- ---- all of them
 
--- the list after k steps
-unfoldable pub afterSteps : ℕ → List Gate → List Gate
-afterSteps zero gs = gs
-afterSteps (suc k) gs = afterSteps k (step gs)
-
 pub after-none : (gs : List Gate) → afterSteps 0 gs ≡ gs
 unfolding afterSteps
 after-none gs = refl
@@ -58,17 +53,10 @@ after-one-more k gs = ap (λ (m : ℕ). afterSteps m gs) (add-one k) ∙ go k gs
     go zero gs = refl
     go (suc k) gs = go k (step gs)
 
--- the written procedure: a step while there is a pair that fits; the answer's steps are those taken
-pub record Procedure (gs : List Gate) (r : Outcome) : Type 0 where
-  pub left-is : r .left ≡ afterSteps (r .steps) gs
-  pub used : (k : ℕ) → k < r .steps → untidy (afterSteps k gs) ≡ true
-  pub ended : untidy (r .left) ≡ false
-  pub few : r .steps ≤ gatesAndControls gs
-
-none-taken : (gs : List Gate) → untidy gs ≡ false → Procedure gs (record { left = gs; steps = 0 })
+none-taken : (gs : List Gate) → untidy gs ≡ false → Repetition gs (record { left = gs; steps = 0 })
 none-taken gs u = record { left-is = sym (after-none gs); used = λ k lt. absurd (omega arith); ended = u; few = omega arith }
 
-one-taken : (gs : List Gate) (r : Outcome) → untidy gs ≡ true → Procedure (step gs) r → Procedure gs (record { left = r .left; steps = suc (r .steps) })
+one-taken : (gs : List Gate) (r : Outcome) → untidy gs ≡ true → Repetition (step gs) r → Repetition gs (record { left = r .left; steps = suc (r .steps) })
 unfolding afterSteps
 one-taken gs r u w =
     record {
@@ -82,15 +70,15 @@ one-taken gs r u w =
     uses zero lt = u
     uses (suc k) lt = w .used k (omega arith)
 
-follows : (m : ℕ) (gs : List Gate) → gatesAndControls gs ≤ m → Procedure gs (tidiedWithin m gs)
+follows : (m : ℕ) (gs : List Gate) → gatesAndControls gs ≤ m → Repetition gs (tidiedWithin m gs)
 follows zero gs le =
     ⊎-elim (λ (u : untidy gs ≡ true). absurd (omega (arith, stepped-gates-and-controls (step-stepped gs u))))
-    (λ (u : untidy gs ≡ false). subst (Procedure gs) (sym (stops zero gs u)) (none-taken gs u)) (decide (untidy gs))
+    (λ (u : untidy gs ≡ false). subst (Repetition gs) (sym (stops zero gs u)) (none-taken gs u)) (decide (untidy gs))
 follows (suc m) gs le =
     ⊎-elim
     (λ (u : untidy gs ≡ true).
-    subst (Procedure gs) (sym (goes-on m gs u)) (one-taken gs (tidiedWithin m (step gs)) u (follows m (step gs) (omega (arith, stepped-gates-and-controls (step-stepped gs u))))))
-    (λ (u : untidy gs ≡ false). subst (Procedure gs) (sym (stops (suc m) gs u)) (none-taken gs u)) (decide (untidy gs))
+    subst (Repetition gs) (sym (goes-on m gs u)) (one-taken gs (tidiedWithin m (step gs)) u (follows m (step gs) (omega (arith, stepped-gates-and-controls (step-stepped gs u))))))
+    (λ (u : untidy gs ≡ false). subst (Repetition gs) (sym (stops (suc m) gs u)) (none-taken gs u)) (decide (untidy gs))
 
 -- what a step keeps, all of them keep
 pub steps-keep : (P : List Gate → Type 0) → ((gs : List Gate) → untidy gs ≡ true → P gs → P (step gs)) → (gs : List Gate) → P gs → P (tidied gs .left)
@@ -109,18 +97,18 @@ unfolding tidied
 stays gs u = stops (gatesAndControls gs) gs u
 
 -- the procedure has one answer
-pub one-answer : (gs : List Gate) (r s : Outcome) → Procedure gs r → Procedure gs s → r ≡ s
+pub one-answer : (gs : List Gate) (r s : Outcome) → Repetition gs r → Repetition gs s → r ≡ s
 one-answer gs r s a b =
     let same : r .steps ≡ s .steps = omega (arith, not-before r s a b, not-before s r b a) in
     let lists : r .left ≡ s .left = a .left-is ∙ ap (λ (k : ℕ). afterSteps k gs) same ∙ sym (b .left-is) in
     λ i. record { left = lists i; steps = same i }
   where
-    not-before : (r s : Outcome) → Procedure gs r → Procedure gs s → s .steps ≤ r .steps
+    not-before : (r s : Outcome) → Repetition gs r → Repetition gs s → s .steps ≤ r .steps
     not-before r s a b =
         ⊎-elim (λ (l : ltb (r .steps) (s .steps) ≡ true). clash (untidy (r .left)) (ap untidy (a .left-is) ∙ b .used (r .steps) (ltb-true (r .steps) (s .steps) l)) (a .ended))
         (λ (l : ltb (r .steps) (s .steps) ≡ false). ltb-false (r .steps) (s .steps) l) (decide (ltb (r .steps) (s .steps)))
 
 -- tidying is the written procedure
-pub tidied-procedure : (gs : List Gate) → Procedure gs (tidied gs)
+pub tidied-procedure : (gs : List Gate) → Repetition gs (tidied gs)
 unfolding tidied
 tidied-procedure gs = follows (gatesAndControls gs) gs (omega arith)

@@ -14,10 +14,10 @@ use Rattle.gates.specs.Gates.{IsGate}
 use Rattle.cascades.specs.Cascades.{ran, tableFor, tableOf, Cascade}
 use Rattle.cascades.specs.Prices.{gatePrice, cascadePrice}
 use Rattle.rules.specs.Rules.{fits}
-use Rattle.rules.specs.Tidying.{gate, isOpen, ruled, gatesAndControls, tidied}
+use Rattle.rules.specs.Tidying.{gate, isOpen, ruled, gatesAndControls, tidied, Repetition}
 use Rattle.rules.proofs.Weights.{priceWith, price-plain}
 use Rattle.rules.proofs.TidySteps.{ruled-stepped, stepped-gates, stepped-keeps, stepped-count, stepped-price, step-stepped}
-use Rattle.rules.proofs.Endings.{Procedure, nothing-fits, steps-keep, stays, tidied-procedure}
+use Rattle.rules.proofs.Endings.{nothing-fits, steps-keep, stays, tidied-procedure}
 
 -- a rule on an open pair, the first or any other, keeps what the cascade computes at every pattern
 pub rule-keeps : (n : ℕ) (gs : List Gate) (i j : ℕ) → Each (IsGate n) gs → i < j → j < length gs → isOpen gs i j ≡ true → fits (gate gs i) (gate gs j) ≡ true
@@ -69,7 +69,7 @@ pub tidied-ends : (gs : List Gate) (i j : ℕ) → i < j → j < length (tidied 
 tidied-ends gs = nothing-fits (tidied gs .left) (tidied-procedure gs .ended)
 
 -- its steps are the uses of rules of the written procedure
-pub tidied-steps : (gs : List Gate) → Procedure gs (tidied gs)
+pub tidied-steps : (gs : List Gate) → Repetition gs (tidied gs)
 tidied-steps gs = tidied-procedure gs
 
 -- and at most the gates plus controls given

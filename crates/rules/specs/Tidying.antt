@@ -1,5 +1,6 @@
 -- Tidying: open pairs, one step, its repetition, and the call.
-use Prim.Native.Nat.{ℕ, zero, suc, _+_, _-_, _*_}
+use Prim.Native.Nat.{ℕ, zero, suc, _+_, _-_, _*_, _≤_, _<_}
+use mathlib.Core.Path.{_≡_}
 use mathlib.Core.Bool.{Bool, true, false, cond, _&&_}
 use mathlib.Core.List.{List, [], _∷_, _++_}
 use lib.Dec.{ltb}
@@ -56,6 +57,11 @@ untidy gs = ltb (firstI gs) (length gs)
 unfoldable pub step : List Gate → List Gate
 step gs = ruled gs (firstI gs) (firstJ gs (firstI gs))
 
+-- the list after k steps
+unfoldable pub afterSteps : ℕ → List Gate → List Gate
+afterSteps zero gs = gs
+afterSteps (suc k) gs = afterSteps k (step gs)
+
 -- what is left, and how many steps it took
 pub record Outcome : Type 0 where
   pub left : List Gate
@@ -76,6 +82,13 @@ gatesAndControls gs = total (λ g. suc (controlCount g)) gs
 
 unfoldable pub tidied : List Gate → Outcome
 tidied gs = tidiedWithin (gatesAndControls gs) gs
+
+-- the same without a bound: a step while there is a pair that fits, and the steps are those taken
+pub record Repetition (gs : List Gate) (r : Outcome) : Type 0 where
+  pub left-is : r .left ≡ afterSteps (r .steps) gs
+  pub used : (k : ℕ) → k < r .steps → untidy (afterSteps k gs) ≡ true
+  pub ended : untidy (r .left) ≡ false
+  pub few : r .steps ≤ gatesAndControls gs
 
 -- 1 6 7
 unfoldable pub tidyAnswer : ℕ → List ℕ → Answer

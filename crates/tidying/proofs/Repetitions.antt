@@ -19,7 +19,8 @@ use Rattle.cascades.proofs.Cascades.{gates-count}
 use Rattle.rules.specs.Tidying.{firstJ, firstI, ruled, untidy, step, Outcome, gatesAndControls, tidied}
 use Rattle.rules.proofs.Weights.{control-count-le}
 use Rattle.rules.proofs.TidySteps.{stepped-gates-and-controls, step-stepped}
-use Rattle.rules.proofs.Endings.{afterSteps, after-none, after-one-more, one-answer, tidied-procedure}
+use Rattle.rules.proofs.Endings.{after-none, after-one-more, one-answer, tidied-procedure}
+use Rattle.rules.specs.Tidying.{afterSteps}
 use Rattle.remembering.specs.Inner.Buffers.{gatesIn, isGap, ungapped, rank, BufferHolds}
 use Rattle.remembering.specs.Inner.Rows.{ReachBounds}
 use Rattle.remembering.specs.Inner.Views.{StretchesMarked}
