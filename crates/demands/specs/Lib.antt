@@ -1,2 +1,4 @@
 pub mod Rows
-pub mod Card
+pub mod Refusals
+pub mod Worth
+pub mod Lent

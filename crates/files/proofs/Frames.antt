@@ -17,7 +17,8 @@ use Rattle.digits.specs.Digits.{digit}
 use Rattle.cascades.specs.Cascades.{records}
 use Rattle.cascades.specs.Inner.Checked.{Whole}
 use Rattle.files.specs.Files.{littleEndian, trailer, fileOf, fileSize, tailAt, trailerAt, distance, count, linesIn, edition, startOf, noteOf, recordsOf, frameOk}
-use Rattle.files.proofs.NumberBytes.{Bytes, length-little, little-at, number-is, bytes-again}
+use Rattle.files.proofs.NumberBytes.{length-little, little-at, number-is, bytes-again}
+use Rattle.files.specs.RoundTrips.{Bytes}
 
 -- ---- the bytes of the trailer
 

@@ -10,11 +10,8 @@ use lib.Seq.{length-take-le, getD-take, getD-drop, ext-getD}
 use Rattle.ranges.proofs.Spans.{length-span, span-at}
 use Rattle.digits.specs.Digits.{digit}
 use Rattle.digits.proofs.Packs.{pack-ext, pack-digits, digit-pack}
+use Rattle.files.specs.RoundTrips.{Bytes}
 use Rattle.files.specs.Files.{littleEndian, numberAt}
-
--- a list of bytes
-abbrev pub Bytes : List ℕ → Type 0
-Bytes f = (i : ℕ) → getD f i 0 < 256
 
 pub length-little : (k x : ℕ) → length (littleEndian k x) ≡ k
 unfolding littleEndian

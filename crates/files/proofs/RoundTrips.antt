@@ -11,7 +11,7 @@ use Rattle.card.proofs.Cards.{accepted-both}
 use Rattle.cascades.specs.Cascades.{records}
 use Rattle.cascades.specs.Inner.Checked.{Whole}
 use Rattle.files.specs.Files.{fileOf, fileSize, writeAnswer, writeRoom, count, linesIn, startOf, noteOf, recordsOf, readAnswer, readRecords, readNote}
-use Rattle.files.proofs.NumberBytes.{Bytes}
+use Rattle.files.specs.RoundTrips.{Bytes, GivesBack, GivesFile}
 use Rattle.files.proofs.Frames.{Right, fileWith, file-with, length-file, with-lines, with-count, with-start, with-note, with-records, with-right, file-again, length-note, length-records, records-count, parts-end, trailer-fits}
 use Rattle.files.proofs.Transfers.{read-says, read-accepted, write-says, write-accepted}
 
@@ -23,17 +23,6 @@ front k xs room e = take-at xs (drop (length xs) room) k e
 -- what an accepted call leaves
 left : (a : Answer) (vs new old : List ℕ) → a ≡ accepted vs → after a new old ≡ new
 left a vs new old e = sym (accepted-both a vs new old new e refl .1)
-
--- reading the file f into two rooms gives the cascade b on n lines and the note back
-pub record GivesBack (n : ℕ) (b note f room noteRoom : List ℕ) : Type 0 where
-  pub answer : readAnswer f (length room) (length noteRoom) ≡ accepted (n ∷ records b ∷ length note ∷ [])
-  pub the-records : readRecords f room noteRoom ≡ laid b room
-  pub the-note : readNote f room noteRoom ≡ laid note noteRoom
-
--- writing a cascade and a note into a room gives the file f
-pub record GivesFile (n : ℕ) (b note f room : List ℕ) : Type 0 where
-  pub answer : writeAnswer n b note (length room) ≡ accepted (length f ∷ [])
-  pub the-file : writeRoom n b note room ≡ laid f room
 
 -- the bytes that were written
 written : (n : ℕ) (b note room : List ℕ) (vs : List ℕ) → writeAnswer n b note (length room) ≡ accepted vs → take (fileSize 8 note b) (writeRoom n b note room) ≡ fileOf n note b

@@ -6,6 +6,7 @@ use mathlib.Core.List.{List, [], _∷_, _++_, map}
 use Prim.Native.Nat.{ℕ, zero, suc, _+_, _*_, _≤_, _<_}
 use native.Mathlib.Nat.{add-zero, zero-add, suc-add, add-assoc}
 use native.Mathlib.Omega.{arith}
+use denote.Ref.{RefT, now}
 use lib.Dec.{leb}
 use lib.ListN.{length, getD, drop, replicate}
 use lib.Seq.{getD-take, getD-drop}
@@ -22,7 +23,8 @@ use Rattle.cascades.specs.Cascades.{gateIn, gatesOf}
 use Rattle.cascades.specs.Inner.Checked.{Whole}
 use Rattle.readers.specs.declared.Given.{Given}
 use Rattle.files.specs.Files.{openingAnswer, trailerAt, distance, count, linesIn, startOf, recordsOf}
-use Rattle.readers.specs.Readers.{recordStands, asGiven, givenAt, placeAfter, turnAt, handed}
+use Rattle.readers.specs.Readers.{recordStands, asGiven, givenAt, placeAfter, turnAt, turnOf, movedTo, handed, Opened}
+use Rattle.readers.specs.declared.Reader.{Reader}
 use Rattle.files.proofs.Frames.{Right, parts-end, trailer-fits, records-count}
 use Rattle.files.proofs.Openings.{opens-at}
 
@@ -55,6 +57,17 @@ module _ (f : List ℕ) (n at end : ℕ) where
 
     pub turn-hands : recordStands f at end ≡ true → isRecord n f at ≡ true → turnAt f n at end ≡ record { given = asGiven (gateAt f at); at = at + 8 }
     turn-hands stands is = turn-gate stands _ _ _ (decoded-is n f at six is)
+
+-- what k turns hand out, one after the other, each from the place that the one before it left
+unfoldable turnsFrom : List ℕ → ℕ → ℕ → ℕ → ℕ → List Given
+turnsFrom f n at end zero = []
+turnsFrom f n at end (suc k) = turnAt f n at end .given ∷ turnsFrom f n (turnAt f n at end .at) end k
+
+-- a reader hands out these
+handed-turns : (k : ℕ) (r : Reader) → handed r k ≡ turnsFrom (now (r .file)) (r .lines) (r .at) (r .end) k
+unfolding handed turnsFrom
+handed-turns zero r = refl
+handed-turns (suc k) r = ap (λ (l : List Given). turnOf r .given ∷ l) (handed-turns k (movedTo r (turnOf r .at)))
 
 -- ---- a record in a part of a file
 
@@ -100,14 +113,14 @@ module _ (f : List ℕ) (r : Right 8 1 f) (w : Whole (linesIn f) (recordsOf 8 f)
   unfolding recordStands
   turn-last = turn-end f (linesIn f) (trailerAt 8 f) (trailerAt 8 f) (w .lines) (rw (lt-leb (trailerAt 8 f + 8) (trailerAt 8 f) (omega arith)))
 
-  end-stays : (k : ℕ) → handed f (linesIn f) (trailerAt 8 f) (trailerAt 8 f) k ≡ replicate k Given.End
-  unfolding handed
+  end-stays : (k : ℕ) → turnsFrom f (linesIn f) (trailerAt 8 f) (trailerAt 8 f) k ≡ replicate k Given.End
+  unfolding turnsFrom
   end-stays zero = refl
   end-stays (suc k) = rw (turn-last, end-stays k)
 
   hands-on : (m i k : ℕ) → i + m ≡ count f
-      → handed f (linesIn f) (startOf 8 f + 8 * i) (trailerAt 8 f) (m + k) ≡ map asGiven (span (gateIn (recordsOf 8 f)) i m) ++ replicate k Given.End
-  unfolding handed span
+      → turnsFrom f (linesIn f) (startOf 8 f + 8 * i) (trailerAt 8 f) (m + k) ≡ map asGiven (span (gateIn (recordsOf 8 f)) i m) ++ replicate k Given.End
+  unfolding turnsFrom span
   hands-on zero i k e =
       let last : startOf 8 f + 8 * i ≡ trailerAt 8 f = omega (arith, parts-end 8 1 f r, r .eight) in
       rw (zero-add k, last) (end-stays k)
@@ -115,10 +128,18 @@ module _ (f : List ℕ) (r : Right 8 1 f) (w : Whole (linesIn f) (recordsOf 8 f)
       rw (suc-add m k, turn-at i (omega arith)) (ap (λ (l : List Given). asGiven (gateIn (recordsOf 8 f) i) ∷ l) (hands-on m (i + 1) k (omega arith)))
 
 -- over a file that opens: its gates, and then the end
-pub reader-gates : (f : List ℕ) (n at end : ℕ) → openingAnswer f ≡ accepted (n ∷ at ∷ end ∷ []) → (k : ℕ)
-    → handed f n at end (count f + k) ≡ map asGiven (gatesOf (recordsOf 8 f)) ++ replicate k Given.End
+turns-gates : (f : List ℕ) (n at end : ℕ) → openingAnswer f ≡ accepted (n ∷ at ∷ end ∷ []) → (k : ℕ)
+    → turnsFrom f n at end (count f + k) ≡ map asGiven (gatesOf (recordsOf 8 f)) ++ replicate k Given.End
 unfolding gatesOf
-reader-gates f n at end e k =
+turns-gates f n at end e k =
     let o = opens-at 8 1 f n at end e in
     let first : at ≡ startOf 8 f + 8 * 0 = omega (arith, o .first) in
     rw (o .lines, first, o .last, records-count 8 1 f (o .framed-right)) (hands-on f (o .framed-right) (o .whole) (count f) 0 k (zero-add (count f)))
+
+-- a reader over a file that opens, asked again and again: the file's gates in order, and then the end for ever
+pub reader-gates : (f : RefT (List ℕ)) (r : Reader) (vs : List ℕ) → Opened f r → openingAnswer (now f) ≡ accepted vs → (k : ℕ)
+    → handed r (count (now f) + k) ≡ map asGiven (gatesOf (recordsOf 8 (now f))) ++ replicate k Given.End
+reader-gates f r vs o e k =
+    let h = o .found vs e in
+    handed-turns (count (now f) + k) r
+    ∙ rw (h .0) (turns-gates (now f) (r .lines) (r .at) (r .end) (e ∙ ap accepted (sym (h .1))) k)

@@ -45,11 +45,6 @@ placeAfter (Given.Refused k p) at = at
 unfoldable pub turnAt : List ℕ → ℕ → ℕ → ℕ → Turn
 turnAt f n at end = record { given = givenAt f n at end; at = placeAfter (givenAt f n at end) at }
 
--- what k turns hand out, one after the other, each from the place that the one before it left
-unfoldable pub handed : List ℕ → ℕ → ℕ → ℕ → ℕ → List Given
-handed f n at end zero = []
-handed f n at end (suc k) = turnAt f n at end .given ∷ handed f n (turnAt f n at end .at) end k
-
 -- ---- the reader that keeps hold of the file
 
 -- its turn, and the reader at another place
@@ -58,6 +53,11 @@ turnOf r = turnAt (now (r .file)) (r .lines) (r .at) (r .end)
 
 abbrev pub movedTo : Reader → ℕ → Reader
 movedTo r at = record { file = r .file; end = r .end; at = at; lines = r .lines }
+
+-- what it hands out when it is asked k times
+unfoldable pub handed : Reader → ℕ → List Given
+handed r zero = []
+handed r (suc k) = turnOf r .given ∷ handed (movedTo r (turnOf r .at)) k
 
 -- the reader that opening the file f gives: over f itself, or, refused, all 0 over the empty part at its start
 pub record Opened (f : RefT (List ℕ)) (r : Reader) : Type 0 where

@@ -1,17 +1,18 @@
--- Document 01's refusal card, a definition for each row: when it is given, and its place.
-use Prim.Native.Nat.{ℕ, _^_}
+-- Document 01's refusal card, a definition for each row: when it is given, and its place; and the rows of the two calls that hand a reference back.
+use Prim.Native.Nat.{ℕ, _^_, _<_}
+use mathlib.Core.Path.{_≡_}
 use mathlib.Core.Bool.{not, _&&_}
-use mathlib.Core.List.{List}
+use mathlib.Core.List.{List, [], _∷_}
 use lib.Dec.{eqb, leb, ltb}
-use lib.ListN.{length}
+use lib.ListN.{length, getD}
 use Rattle.card.specs.Card.{linesOk}
 use Rattle.gates.specs.declared.Gate.{Gate}
 use Rattle.gates.specs.Records.{isRecord}
 use Rattle.tables.specs.Tables.{firstLarge, firstRepeated}
-use Rattle.cascades.specs.Cascades.{records}
+use Rattle.cascades.specs.Cascades.{records, gatesOf}
 use Rattle.cascades.specs.Answers.{lengthOk, firstBad}
 use Rattle.choice.specs.Choice.{firstDifference}
-use Rattle.files.specs.Files.{frameOk}
+use Rattle.files.specs.Files.{linesIn, recordsOf, frameOk}
 use Rattle.readers.specs.Readers.{recordStands}
 use Rattle.demands.specs.Rows.{Row}
 
@@ -66,3 +67,17 @@ row10 v = record { applies = ltb 2 v; number = 10; place = 0 }
 -- two cascades compute different tables: the first input on which they differ
 abbrev pub row11 : ℕ → List Gate → List Gate → Row
 row11 n gs hs = record { applies = ltb (firstDifference n gs hs) (3 ^ n); number = 11; place = firstDifference n gs hs }
+
+-- 1 10, 6 7 of the first, 6 7 of the second, 11
+abbrev pub choiceRows : ℕ → ℕ → List ℕ → List ℕ → List Row
+choiceRows n v b c = row1 n ∷ row10 v ∷ row6 b ∷ row7 n b ∷ row6 c ∷ row7 n c ∷ row11 n (gatesOf b) (gatesOf c) ∷ []
+
+-- 9 1 6 7
+abbrev pub openingRows : List ℕ → List Row
+openingRows f = row9 f ∷ row1 (linesIn f) ∷ row6 (recordsOf 8 f) ∷ row7 (linesIn f) (recordsOf 8 f) ∷ []
+
+-- entry i of a table equals an earlier one
+pub record Repeats (t : List ℕ) (i : ℕ) : Type 0 where
+  pub earlier : ℕ
+  pub before : earlier < i
+  pub equal : getD t earlier 0 ≡ getD t i 0
