@@ -10,7 +10,6 @@ use Rattle.ranges.specs.Ranges.{span}
 use Rattle.ranges.proofs.Counts.{by-place}
 use Rattle.ranges.proofs.Spans.{length-span}
 use Rattle.ranges.proofs.Changes.{at-set, filled-at}
-use Rattle.rules.specs.Tidying.{gate}
 use Rattle.remembering.specs.Inner.Rows.{settledMark, NoPairBefore, ReachBounds, ReachBoundsBut}
 
 -- a fact of the numbers below k, and of k

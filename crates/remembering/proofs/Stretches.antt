@@ -27,7 +27,7 @@ use Rattle.digits.proofs.Bits.{digit-and, digit-of-zero, or-meets}
 use Rattle.gates.specs.declared.Gate.{Gate}
 use Rattle.gates.specs.Gates.{control, IsGate}
 use Rattle.gates.specs.Inner.Words.{byte, gateOf, LowControls, controlMarks, otherMarks}
-use Rattle.gates.proofs.Bytes.{byte-one, byte-high, operator-word, target-word}
+use Rattle.gates.proofs.Bytes.{byte-high, operator-word, target-word}
 use Rattle.gates.proofs.Marks.{control-word}
 use Rattle.rules.specs.Places.{isC, sameType, upsets, blocks, clashes, mayChange}
 use Rattle.rules.specs.Rules.{sameLines, fits}

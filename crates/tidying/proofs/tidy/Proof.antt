@@ -1,5 +1,5 @@
 -- `tidying::tidy` meets its contract: a refusal is that of checking, and else the records are tidied where they lie. Assumes nothing.
-use mathlib.Core.Path.{_≡_, sym, ap, ap₂, _∙_}
+use mathlib.Core.Path.{sym, ap, ap₂, _∙_}
 use mathlib.Core.List.{[], _∷_}
 use Prim.Native.Nat.{ℕ}
 use Rattle.card.specs.Card.{Answer.accepted}

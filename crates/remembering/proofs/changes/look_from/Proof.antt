@@ -1,5 +1,5 @@
 -- `remembering::changes::look_from` meets its contract: the rows from x to r are looked at again, the others are as they were. Assumes nothing.
-use mathlib.Core.Path.{_≡_, sym, subst}
+use mathlib.Core.Path.{sym, subst}
 use mathlib.Core.List.{List}
 use Prim.Native.Nat.{ℕ, _-_, _<_, _≤_}
 use native.Mathlib.Omega.{arith}

@@ -1,7 +1,7 @@
 -- `remembering::changes::look_stretch` meets its contract: no row reaches the change, or none is to be looked at again, or each looks again and the
 -- stretch is measured again. Assumes nothing.
 use mathlib.Core.Path.{refl}
-use Prim.Native.Nat.{_+_, _*_, _<_, _≤_}
+use Prim.Native.Nat.{_*_, _<_}
 use native.Mathlib.Omega.{arith}
 use lib.ListN.{length, length-set}
 use Rattle.remembering.proofs.Buffers.{gates-inside}

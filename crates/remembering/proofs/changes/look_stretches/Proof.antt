@@ -6,7 +6,6 @@ use native.Mathlib.Omega.{arith}
 use Rattle.gates.specs.declared.Gate.{Gate}
 use Rattle.remembering.specs.declared.changes.Change.{Change}
 use Rattle.remembering.specs.Inner.Buffers.{gatesIn}
-use Rattle.remembering.specs.Inner.Changes.{Looked}
 use Rattle.remembering.proofs.Buffers.{gates-inside}
 use Rattle.remembering.proofs.Looks.{again-none, again-wide, Looking, looking-start, looking-fits, looking-next}
 use Rattle.remembering.proofs.Reaches.{reach-many}

@@ -11,7 +11,6 @@ use Rattle.remembering.specs.Inner.Rows.{settledMark}
 use Rattle.remembering.proofs.Buffers.{length-gates, gates-inside}
 use Rattle.remembering.proofs.Looks.{again-stay}
 use Rattle.remembering.proofs.Stretches.{quiet-rows}
-use borrow.Author.Needs.{needs}
 use Rattle.remembering.proofs.changes.stretch_stays.Statement.{statement}
 use Rattle.remembering.proofs.changes.stretch_stays.Tie as tie
 

@@ -1,10 +1,9 @@
 -- `remembering::rows::raise_reach` meets its contract: the stretch reaches so far, or now does. Assumes nothing.
-use Prim.Native.Nat.{_/_, _%_, _<_}
+use Prim.Native.Nat.{_/_, _<_}
 use native.Mathlib.Omega.{arith}
-use lib.ListN.{length, getD, length-set}
+use lib.ListN.{length, length-set}
 use Rattle.remembering.proofs.Reaches.{raise-none, raise-some}
 use borrow.Author.Needs.{needs}
-use Rattle.remembering.specs.Inner.Rows.{settledMark}
 use Rattle.remembering.proofs.rows.raise_reach.Statement.{statement}
 use Rattle.remembering.proofs.rows.raise_reach.Tie as tie
 

@@ -11,7 +11,7 @@ use Rattle.rules.specs.Tidying.{gate}
 use Rattle.remembering.specs.Inner.Buffers.{gatesIn}
 use Rattle.remembering.specs.Inner.Rows.{Clear}
 use Rattle.remembering.specs.Inner.Views.{againstOf, kindOf, StretchesMarked}
-use Rattle.remembering.proofs.Buffers.{length-gates, gates-inside, holds-gate}
+use Rattle.remembering.proofs.Buffers.{length-gates, holds-gate}
 use Rattle.remembering.proofs.Stretches.{clear-stretch}
 use Rattle.remembering.proofs.views.pass_stretches.Statement.{statement}
 use Rattle.remembering.proofs.views.pass_stretches.Tie as tie

@@ -1,5 +1,4 @@
 -- `remembering::views::see_gate` meets its contract: of a gap nothing is said. Assumes nothing.
-use mathlib.Core.Path.{_≡_}
 use borrow.Author.Tests.{eq-eqb}
 use Rattle.ranges.proofs.Bools.{clash}
 use Rattle.remembering.specs.Inner.Buffers.{isGap}

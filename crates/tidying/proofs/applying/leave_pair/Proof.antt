@@ -4,7 +4,7 @@ use Rattle.gates.specs.Inner.Words.{gateOf}
 use Rattle.gates.specs.Gates.{inverse}
 use Rattle.rules.specs.declared.fitting.Rule.{Rule}
 use Rattle.rules.specs.declared.fitting.Left.{Left}
-use Rattle.rules.specs.Rules.{reduces, loosened, retuned}
+use Rattle.rules.specs.Rules.{loosened, retuned}
 use Rattle.rules.specs.Inner.NamedRules.{ruleFor}
 use Rattle.rules.proofs.FittingPairs.{chosen-reduces}
 use Rattle.rules.proofs.PairWords.{packed}

@@ -1,5 +1,5 @@
 -- `tidying::applying::replace` meets its contract: the rows are settled for the new gate, and it is stored. Assumes nothing.
-use mathlib.Core.Path.{_≡_, _∙_}
+use mathlib.Core.Path.{_∙_}
 use Prim.Native.Nat.{_+_, _*_, _<_, _≤_}
 use native.Mathlib.Omega.{arith}
 use lib.ListN.{length, length-set}
