@@ -5,13 +5,9 @@ use mathlib.Core.Logic.{_⊎_, ⊎-elim, _↔_}
 use mathlib.Core.Bool.{Bool, true, false, cond, true≢false, false≢true}
 use mathlib.Core.List.{List, [], _∷_}
 use Prim.Native.Nat.{ℕ}
-use native.Mathlib.Omega.{arith}
 use Rattle.card.specs.Card.{Answer, Answer.accepted, Answer.refused, refusing}
+use Rattle.card.proofs.Cards.{not-accepted}
 use Rattle.demands.specs.Rows.{Row, decided, FirstIs, NoneApplies}
-
--- an accepted answer is no refusal
-pub never-both : {A : Type 0} (k p : ℕ) (vs : List ℕ) → accepted vs ≡ refused k p → A
-never-both k p vs e = let z : _≡_ {A = ℕ} 0 1 = cc in absurd (omega arith)
 
 module _ (vs : List ℕ) where
   pub first-refuses : (rows : List Row) (k p : ℕ) → FirstIs rows k p → decided rows (accepted vs) ≡ refused k p
@@ -23,7 +19,7 @@ module _ (vs : List ℕ) where
 
   pub refused-first : (rows : List Row) (k p : ℕ) → decided rows (accepted vs) ≡ refused k p → FirstIs rows k p
   unfolding decided FirstIs refusing
-  refused-first [] k p e = never-both k p vs e
+  refused-first [] k p e = not-accepted k p vs (sym e)
   refused-first (row ∷ rows) k p e = go (row .applies) refl e (refused-first rows k p)
     where
       go : (b : Bool) → row .applies ≡ b → cond b (refused (row .number) (row .place)) (decided rows (accepted vs)) ≡ refused k p
@@ -47,5 +43,15 @@ module _ (vs : List ℕ) where
     where
       go : (b : Bool) → row .applies ≡ b → cond b (refused (row .number) (row .place)) (decided rows (accepted vs)) ≡ accepted vs
           → (decided rows (accepted vs) ≡ accepted vs → NoneApplies rows) → (row .applies ≡ false) × NoneApplies rows
-      go true q e ih = never-both (row .number) (row .place) vs (sym e)
+      go true q e ih = not-accepted (row .number) (row .place) vs e
       go false q e ih = (q, ih e)
+
+-- an accepted answer has the values that stand behind the rows
+pub accepted-values : (rows : List Row) (us vs : List ℕ) → decided rows (accepted us) ≡ accepted vs → us ≡ vs
+unfolding decided refusing
+accepted-values [] us vs e = cc
+accepted-values (row ∷ rows) us vs e = go (row .applies) e (accepted-values rows us vs)
+  where
+    go : (b : Bool) → cond b (refused (row .number) (row .place)) (decided rows (accepted us)) ≡ accepted vs → (decided rows (accepted us) ≡ accepted vs → us ≡ vs) → us ≡ vs
+    go true e ih = not-accepted (row .number) (row .place) vs e
+    go false e ih = ih e

@@ -1,13 +1,14 @@
 -- Demand 1. Every call answers every input, by its type and contract. Here: each refusal is given exactly where the card says, in the card's
 -- order, with the card's place; and a refused call leaves each lent buffer as it was. Assumes nothing.
 use Prim.Native.Nat.{ℕ, _+_, _*_, _/_, _^_}
-use mathlib.Core.Path.{_≡_, refl}
+use mathlib.Core.Path.{_≡_, refl, sym}
 use mathlib.Core.Bool.{Bool, true, false, cond, not, _&&_}
 use lib.Dec.{eqb}
 use mathlib.Core.Logic.{_↔_}
 use mathlib.Core.List.{List, [], _∷_}
 use lib.ListN.{length}
 use Rattle.card.specs.Card.{Answer, Answer.accepted, Answer.refused, refusing, linesOk, onLines, after, values}
+use Rattle.card.proofs.Cards.{not-accepted}
 use Rattle.tables.specs.Tables.{onTable, checkTableAnswer}
 use Rattle.gates.specs.Records.{isRecord, gateAt}
 use Rattle.cascades.specs.Cascades.{records, gatesOf, ran}
@@ -22,14 +23,9 @@ use Rattle.readers.specs.Readers.{recordStands, asGiven, givenAs, givenAt, plac
 use Rattle.readers.specs.declared.Given.{Given}
 use Rattle.listings.specs.Listings.{listingText, listingAnswer, listingRoom}
 use Rattle.sheets.specs.Sheets.{linesOf, entriesOf, fileAnswer, sheetText, sheetAnswer, sheetRoom}
-use Rattle.demands.specs.Rows.{Row, decided, FirstIs, NoneApplies}
-use Rattle.demands.specs.Card.{row1, row2, row3, row4, row5, row6, row7, row7-next, row8, row9, row9-note, row10, row11}
-use Rattle.demands.proofs.Decided.{never-both, first-refuses, refused-first, none-accepts, accepted-none}
-
--- an answer is refusal k at p exactly if the first row that applies is k at p, and it is accepted with these values exactly if none applies
-pub record Exactly (answer : Answer) (rows : List Row) (vs : List ℕ) : Type 0 where
-  pub refusals : (k p : ℕ) → (answer ≡ refused k p) ↔ FirstIs rows k p
-  pub accepts : (answer ≡ accepted vs) ↔ NoneApplies rows
+use Rattle.demands.specs.Rows.{Row, decided, FirstIs, NoneApplies, Exactly, Kept}
+use Rattle.demands.specs.Refusals.{row1, row2, row3, row4, row5, row6, row7, row7-next, row8, row9, row9-note, row10, row11, choiceRows, openingRows}
+use Rattle.demands.proofs.Decided.{first-refuses, refused-first, none-accepts, accepted-none}
 
 exactly : (rows : List Row) (vs : List ℕ) → Exactly (decided rows (accepted vs)) rows vs
 exactly rows vs =
@@ -37,10 +33,6 @@ exactly rows vs =
       refusals = λ k p. (refused-first vs rows k p, first-refuses vs rows k p);
       accepts = (accepted-none vs rows, none-accepts vs rows);
     }
-
--- a refused call leaves the buffer as it was
-pub Kept : Answer → List ℕ → List ℕ → Type 0
-Kept answer now old = (k p : ℕ) → answer ≡ refused k p → now ≡ old
 
 kept : (answer : Answer) (new old : List ℕ) → Kept answer (after answer new old) old
 unfolding Kept after
@@ -100,11 +92,11 @@ tidy-kept n b = kept (tidyAnswer n b) _ b
 
 -- 6 and 7 of the first, then of the second. `cheaper` hands back what this answer says (`Handed`)
 pub choose : (n v : ℕ) (b c : List ℕ)
-    → Exactly (chooseAnswer n v b c) (row1 n ∷ row10 v ∷ row6 b ∷ row7 n b ∷ row6 c ∷ row7 n c ∷ row11 n (gatesOf b) (gatesOf c) ∷ [])
+    → Exactly (chooseAnswer n v b c) (choiceRows n v b c)
     (cond (secondWins v (gatesOf b) (gatesOf c)) 2 1 ∷ [])
 unfolding chooseAnswer onLines onRecords decided
 choose n v b c =
-    exactly (row1 n ∷ row10 v ∷ row6 b ∷ row7 n b ∷ row6 c ∷ row7 n c ∷ row11 n (gatesOf b) (gatesOf c) ∷ [])
+    exactly (choiceRows n v b c)
     (cond (secondWins v (gatesOf b) (gatesOf c)) 2 1 ∷ [])
 
 pub write-file : (n : ℕ) (b note : List ℕ) (room : ℕ)
@@ -134,9 +126,9 @@ unfolding readNote
 read-note-kept f room noteRoom = kept (readAnswer f (length room) (length noteRoom)) _ noteRoom
 
 pub opening : (f : List ℕ)
-    → Exactly (openingAnswer f) (row9 f ∷ row1 (linesIn f) ∷ row6 (recordsOf 8 f) ∷ row7 (linesIn f) (recordsOf 8 f) ∷ []) (linesIn f ∷ startOf 8 f ∷ trailerAt 8 f ∷ [])
+    → Exactly (openingAnswer f) (openingRows f) (linesIn f ∷ startOf 8 f ∷ trailerAt 8 f ∷ [])
 unfolding openingOf onFile onLines onRecords decided
-opening f = exactly (row9 f ∷ row1 (linesIn f) ∷ row6 (recordsOf 8 f) ∷ row7 (linesIn f) (recordsOf 8 f) ∷ []) (linesIn f ∷ startOf 8 f ∷ trailerAt 8 f ∷ [])
+opening f = exactly (openingRows f) (linesIn f ∷ startOf 8 f ∷ trailerAt 8 f ∷ [])
 
 -- the values are the gate's where a record stands, and else the end's
 pub next : (n : ℕ) (f : List ℕ) (at end : ℕ)
@@ -160,9 +152,14 @@ unfolding turnAt placeAfter
 next-kept n f at end k p e = go (givenAt f n at end) e
   where
     go : (given : Given) → givenAs given ≡ refused k p → placeAfter given at ≡ at
-    go (Given.Gate o t c) e = never-both k p _ e
+    go (Given.Gate o t c) e = not-accepted k p _ (sym e)
     go Given.End e = refl
     go (Given.Refused j q) e = refl
+
+-- after the end it stays there
+pub next-end : (n : ℕ) (f : List ℕ) (at end : ℕ) → turnAt f n at end .given ≡ Given.End → turnAt f n at end .at ≡ at
+unfolding turnAt placeAfter
+next-end n f at end e = rw e
 
 pub listing : (n : ℕ) (b : List ℕ) (room : ℕ)
     → Exactly (listingAnswer n b room) (row1 n ∷ row6 b ∷ row7 n b ∷ row5 room (length (listingText n (gatesOf b))) ∷ []) (length (listingText n (gatesOf b)) ∷ [])

@@ -1,0 +1,85 @@
+-- Demand 1, the places. Where a row of the card names the first of something, its place is the least index with the property, in the property's own words:
+-- no search of a call has to be believed for that. Assumes nothing.
+use Prim.Native.Nat.{ℕ, _*_, _^_, _≤_, _<_}
+use mathlib.Core.Path.{_≡_}
+use mathlib.Core.Logic.{⊎-elim}
+use mathlib.Core.Bool.{Bool, true, false, not}
+use mathlib.Core.List.{List}
+use native.Mathlib.Omega.{arith}
+use lib.Dec.{eqb, leb, ltb}
+use lib.ListN.{length, getD}
+use borrow.Author.Tests.{eqb-true, eqb-false, eq-eqb, ne-eqb, leb-true, le-leb, ltb-true, ltb-false, not-true, not-false}
+use Rattle.ranges.specs.Ranges.{some, first}
+use Rattle.ranges.proofs.Bools.{decide, clash}
+use Rattle.ranges.proofs.Tests.{some-hit, some-not}
+use Rattle.ranges.proofs.Searches.{found}
+use Rattle.gates.specs.declared.Gate.{Gate}
+use Rattle.gates.specs.Records.{isRecord}
+use Rattle.tables.specs.Tables.{tooLarge, repeated, firstLarge, firstRepeated}
+use Rattle.cascades.specs.Cascades.{records, ran}
+use Rattle.cascades.specs.Answers.{badRecord, firstBad}
+use Rattle.choice.specs.Choice.{firstDifference}
+use Rattle.demands.specs.Rows.{Places}
+use Rattle.demands.specs.Refusals.{row3, row4, row7, row11, Repeats}
+
+-- the first number below m that passes a test is the least with the property that the test decides
+least-place : (f : ℕ → Bool) (P : ℕ → Type 0) (m k : ℕ) → ((i : ℕ) → f i ≡ true → P i) → ((i : ℕ) → f i ≡ false → P i → ⊥)
+    → Places P m (record { applies = ltb (first f 0 m) m; number = k; place = first f 0 m })
+least-place f P m k passes fails =
+    let w = found f 0 m in
+    record {
+      least = λ e.
+          record {
+            inside = ltb-true (first f 0 m) m e;
+            has = passes (first f 0 m) (w .hit (omega (arith, ltb-true (first f 0 m) m e)));
+            none-before = λ j lt. fails j (w .before j (omega arith) lt);
+          };
+      nowhere = λ e i lt. fails i (w .before i (omega arith) (omega (arith, ltb-false (first f 0 m) m e)));
+    }
+
+-- the first entry that is 3^n or more
+pub row3-places : (n : ℕ) (t : List ℕ) → Places (λ i. 3 ^ n ≤ getD t i 0) (length t) (row3 n t)
+unfolding firstLarge tooLarge
+row3-places n t =
+    least-place (tooLarge (3 ^ n) t) (λ i. 3 ^ n ≤ getD t i 0) (length t) 3 (λ i e. leb-true (3 ^ n) (getD t i 0) e)
+    (λ i e le. clash (leb (3 ^ n) (getD t i 0)) (le-leb (3 ^ n) (getD t i 0) le) e)
+
+-- where a test passes for some number below m, it does for the first
+some-first : (f : ℕ → Bool) (m : ℕ) → some f 0 m ≡ true → first f 0 m < m
+some-first f m e =
+    ⊎-elim (λ (l : ltb (first f 0 m) m ≡ true). ltb-true (first f 0 m) m l)
+    (λ (l : ltb (first f 0 m) m ≡ false). clash (some f 0 m) e (some-not f 0 m (λ k le lt. found f 0 m .before k le (omega (arith, ltb-false (first f 0 m) m l)))))
+    (decide (ltb (first f 0 m) m))
+
+-- the first entry that equals an earlier one
+pub row4-places : (t : List ℕ) → Places (Repeats t) (length t) (row4 t)
+unfolding firstRepeated
+row4-places t = least-place (repeated t) (Repeats t) (length t) 4 there nowhere
+  where
+    same : ℕ → ℕ → Bool
+    same i j = eqb (getD t j 0) (getD t i 0)
+
+    there : (i : ℕ) → repeated t i ≡ true → Repeats t i
+    there i e =
+        let j = first (same i) 0 i in
+        let lt : j < i = some-first (same i) i (unfold repeated in e) in
+        record { earlier = j; before = lt; equal = eqb-true (getD t j 0) (getD t i 0) (found (same i) 0 i .hit (omega arith)) }
+
+    nowhere : (i : ℕ) → repeated t i ≡ false → Repeats t i → ⊥
+    nowhere i e w =
+        clash (repeated t i) (unfold repeated in some-hit (same i) 0 i (w .earlier) (omega arith) (omega (arith, w .before)) (eq-eqb _ _ (w .equal))) e
+
+-- the first record that is no gate on n lines
+pub row7-places : (n : ℕ) (b : List ℕ) → Places (λ i. isRecord n b (8 * i) ≡ false) (records b) (row7 n b)
+unfolding firstBad badRecord
+row7-places n b =
+    least-place (badRecord isRecord n b) (λ i. isRecord n b (8 * i) ≡ false) (records b) 7 (λ i e. not-true (isRecord n b (8 * i)) e)
+    (λ i e w. clash (isRecord n b (8 * i)) (not-false (isRecord n b (8 * i)) e) w)
+
+-- the first input on which two cascades differ
+pub row11-places : (n : ℕ) (gs hs : List Gate) → Places (λ p. ran gs p ≡ ran hs p → ⊥) (3 ^ n) (row11 n gs hs)
+unfolding firstDifference
+row11-places n gs hs =
+    least-place (λ p. not (eqb (ran gs p) (ran hs p))) (λ p. ran gs p ≡ ran hs p → ⊥) (3 ^ n) 11
+    (λ p e. eqb-false (ran gs p) (ran hs p) (not-true (eqb (ran gs p) (ran hs p)) e))
+    (λ p e w. w (eqb-true (ran gs p) (ran hs p) (not-false (eqb (ran gs p) (ran hs p)) e)))
