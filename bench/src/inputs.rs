@@ -122,7 +122,7 @@ pub fn alike(lines: u8, gates: usize) -> [Vec<u8>; 2] {
 #[cfg(test)]
 mod tests {
     use super::*;
-    use second::cases::hardest;
+    use second::hard::hardest;
     use second::choice::choose;
 
     #[test]

@@ -1,6 +1,6 @@
 //! What is timed on what.
 
-use second::cases::hardest;
+use second::hard::hardest;
 use second::draws::Draws;
 use second::file::LONGEST_NOTE;
 use second::gate::RECORD;

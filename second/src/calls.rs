@@ -7,13 +7,14 @@
 //! [`vectors`]: crate::vectors
 
 use crate::answer::{Answer, Refusal};
-use crate::cascade::{check, invert, price, run, tabulate};
+use crate::cascade::{check, invert, price, run};
 use crate::choice::choose;
 use crate::file::{next, opening, read_file, write_file};
 use crate::listing::listing;
 use crate::sheet::sheet;
 use crate::synthesis::synthesize;
 use crate::table::check_table;
+use crate::tabulating::tabulate;
 use crate::tidying::tidy;
 
 /// The calls that numbers, bytes and rooms are enough for.

@@ -3,7 +3,6 @@
 use crate::answer::{Answer, Refusal};
 use crate::gate::{faults, Gate, CONTROLS, NO_CONTROL, RECORD};
 use crate::pattern::{Digits, Lines, MOST_LINES};
-use crate::{planes, standing};
 
 /// The most gates of a cascade.
 pub const MOST_GATES: usize = 8_000;
@@ -26,19 +25,6 @@ pub fn run(lines: u8, cascade: &[u8], pattern: u16) -> Answer<u16> {
         }
         _ => Err(Refusal::pattern_too_large()),
     }
-}
-
-/// What the cascade makes of every pattern, as a table. Refusals 1, 6, 7, 5; the
-/// answer is the number of entries.
-pub fn tabulate(lines: u8, cascade: &[u8], room: &mut [u16]) -> Answer<usize> {
-    let lines = Lines::check(lines)?;
-    let cascade = Cascade::check(lines, cascade)?;
-    let entries = lines.patterns();
-    let Some(room) = room.get_mut(..entries) else {
-        return Err(Refusal::room_too_small(entries));
-    };
-    cascade.tabulate(room);
-    Ok(entries)
 }
 
 /// Writes the cascade that undoes this one: reversed, each gate replaced by its
@@ -103,18 +89,6 @@ impl<'a> Cascade<'a> {
     /// The gates, first to last.
     pub fn gates(self) -> impl DoubleEndedIterator<Item = Gate> + ExactSizeIterator + 'a {
         self.records.iter().map(|&record| Gate::of_checked(record))
-    }
-
-    /// Writes what the cascade computes into a room of exactly 3^n entries.
-    pub(crate) fn tabulate(self, entries: &mut [u16]) {
-        // A row on which a gate acts takes as long as two words of planes. Where
-        // planes have so few words, asking would take as long.
-        let words = planes::words(self.lines);
-        if words > 2 && 2 * standing::mean_rows(self) <= words {
-            standing::tabulate(self, entries);
-        } else {
-            planes::tabulate(self, entries);
-        }
     }
 
     pub fn cost(self, value: GlobalValue) -> u32 {

@@ -3,6 +3,7 @@
 use crate::answer::{Answer, Refusal};
 use crate::cascade::{Cascade, GlobalValue};
 use crate::pattern::{Lines, MOST_PATTERNS};
+use crate::tabulating::write_table;
 
 /// The answers of [`choose`].
 pub const FIRST: u8 = 1;
@@ -37,8 +38,8 @@ pub fn choose(lines: u8, value: u8, first: &[u8], second: &[u8]) -> Answer<u8> {
 fn first_difference(one: Cascade, other: Cascade) -> Option<usize> {
     let (mut ones, mut others) = ([0; MOST_PATTERNS], [0; MOST_PATTERNS]);
     let entries = ..one.lines().patterns();
-    one.tabulate(&mut ones[entries]);
-    other.tabulate(&mut others[entries]);
+    write_table(one, &mut ones[entries]);
+    write_table(other, &mut others[entries]);
     (ones != others)
         .then(|| ones.iter().zip(&others).take_while(|(one, other)| one == other).count())
 }

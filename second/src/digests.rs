@@ -2,11 +2,12 @@
 //! too: all tables on two lines, and drawn ones on three to six.
 
 use crate::answer::Answer;
-use crate::cascade::{invert, price, tabulate};
+use crate::cascade::{invert, price};
 use crate::draws::Draws;
 use crate::gate::RECORD;
 use crate::pattern::{Lines, MOST_PATTERNS};
 use crate::synthesis::synthesize;
+use crate::tabulating::tabulate;
 use crate::tidying::tidy;
 use crate::vectors::Digest;
 

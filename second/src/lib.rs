@@ -9,7 +9,8 @@
 //! | [`pattern`]   | Patterns, tables, gates: line counts, patterns and their digits |
 //! | [`table`]     | Patterns, tables, gates: what table is a permutation           |
 //! | [`gate`]      | Patterns, tables, gates: operators and gate records            |
-//! | [`cascade`]   | check, run, tabulate, invert; The price of a gate              |
+//! | [`cascade`]   | check, run, invert; The price of a gate                        |
+//! | [`tabulating`] | what a cascade computes, as a table                           |
 //! | [`synthesis`] | From table to cascade                                          |
 //! | [`tidying`]   | Tidying                                                        |
 //! | [`choice`]    | The cheaper of two                                             |
@@ -26,7 +27,7 @@
 //! The other modules are for comparing this library with the first: [`calls`] has
 //! every call in one shape, [`vectors`] says how test cases are written and what
 //! they print, [`cases`](mod@cases) lists them, [`digests`] sums up many tables and
-//! cascades, and [`draws`] makes some of these up.
+//! cascades, and [`draws`] and [`hard`] make some of these up.
 
 #![forbid(unsafe_code)]
 
@@ -39,6 +40,7 @@ pub mod digests;
 pub mod draws;
 pub mod file;
 pub mod gate;
+pub mod hard;
 pub mod listing;
 pub mod pattern;
 mod planes;
@@ -46,5 +48,6 @@ pub mod sheet;
 mod standing;
 pub mod synthesis;
 pub mod table;
+pub mod tabulating;
 pub mod tidying;
 pub mod vectors;

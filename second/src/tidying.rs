@@ -23,9 +23,11 @@ pub struct Tidied {
 /// Tidies a cascade where it lies: the gates left stand first, the records freed
 /// are zeroed. Refusals 1, 6, 7.
 pub fn tidy(lines: u8, cascade: &mut [u8]) -> Answer<Tidied> {
-    let gates = Cascade::check(Lines::check(lines)?, cascade)?.gates();
-    let mut rack = Rack::of(gates);
-    let steps = rack.tidy();
+    let mut rack = Rack::check(lines, cascade)?;
+    let mut steps = 0;
+    while rack.step() {
+        steps += 1;
+    }
 
     let (records, _) = cascade.as_chunks_mut::<RECORD>();
     let mut left = 0;
@@ -152,7 +154,7 @@ struct Stretch {
 }
 
 /// A cascade being tidied. Gates keep their places throughout and leave gaps.
-struct Rack {
+pub struct Rack {
     /// What a gap still holds is no one's to look at.
     gates: Vec<Gate>,
     views: Vec<View>,
@@ -172,11 +174,12 @@ struct Rack {
 }
 
 impl Rack {
-    fn of(gates: impl Iterator<Item = Gate>) -> Rack {
-        let gates: Vec<Gate> = gates.collect();
+    /// Refusals 1, 6, 7.
+    pub fn check(lines: u8, cascade: &[u8]) -> Answer<Rack> {
+        let gates: Vec<Gate> = Cascade::check(Lines::check(lines)?, cascade)?.gates().collect();
         let count = gates.len();
         let views: Vec<View> = gates.iter().map(|&gate| View::of(gate)).collect();
-        Rack {
+        Ok(Rack {
             clear_to: (1..=count as u16).collect(),
             stretches: views.chunks(STRETCH).map(Stretch::of).collect(),
             reach: (1..=count)
@@ -186,27 +189,18 @@ impl Rack {
             unsettled: Rows::all(count),
             gates,
             views,
-        }
-    }
-
-    /// Uses rules until none fits, and counts them.
-    fn tidy(&mut self) -> usize {
-        let mut steps = 0;
-        while self.step() {
-            steps += 1;
-        }
-        steps
+        })
     }
 
     /// The gates that are left.
-    fn left(&self) -> impl Iterator<Item = Gate> + '_ {
+    pub fn left(&self) -> impl Iterator<Item = Gate> + '_ {
         let all = self.gates.iter().zip(&self.views);
         all.filter(|(_, view)| view.family != View::GAP.family).map(|(&gate, _)| gate)
     }
 
     /// Uses the rule that fits the smallest i, then the smallest j; false if no
     /// open pair fits.
-    fn step(&mut self) -> bool {
+    pub fn step(&mut self) -> bool {
         while let Some(row) = self.unsettled.lowest() {
             if let Some((place, (at_row, at_place))) = self.walk(row) {
                 self.change(row, at_row);
@@ -364,117 +358,5 @@ impl Rows {
             self.from += 1;
         }
         Some(64 * self.from + self.words[self.from].trailing_zeros() as usize)
-    }
-}
-
-#[cfg(test)]
-#[path = "../tests/all/plain.rs"]
-mod plain;
-
-#[cfg(test)]
-mod tests {
-    use super::*;
-
-    fn lines(count: usize) -> Lines {
-        Lines::check(count as u8).unwrap()
-    }
-
-    fn of_plain(gate: &plain::Gate) -> Gate {
-        Gate::read(lines(6), plain::encode(gate)).unwrap()
-    }
-
-    fn all_gates_on_three_lines() -> Vec<plain::Gate> {
-        let records = (0..5 * 3 * 64u32).map(|code| {
-            let mut record = [3; 8];
-            record[0] = 1 + (code % 5) as u8;
-            record[1] = (code / 5 % 3) as u8;
-            for line in 0..3 {
-                record[2 + line] = ((code / 15) >> (2 * line) & 3) as u8;
-            }
-            record
-        });
-        let gates: Vec<_> = records.filter_map(|record| plain::decode(3, &record)).collect();
-        assert_eq!(gates.len(), 5 * 3 * 16);
-        gates
-    }
-
-    #[test]
-    fn views_tell_which_gates_may_change_places() {
-        for one in all_gates_on_three_lines() {
-            for other in all_gates_on_three_lines() {
-                let (view, seen) = (View::of(of_plain(&one)), View::of(of_plain(&other)));
-                let may_pass = view.may_pass(seen.sets);
-                assert_eq!(may_pass, plain::may_change_places(&one, &other));
-                assert!(view.may_pass(View::GAP.sets));
-            }
-        }
-    }
-
-    #[test]
-    fn rules_fit_and_do_what_the_document_says() {
-        for i in all_gates_on_three_lines() {
-            for j in all_gates_on_three_lines() {
-                let outcome = rule(of_plain(&i), of_plain(&j));
-                let mut pair = vec![i.clone(), j.clone()];
-                assert_eq!(outcome.is_some(), plain::use_rule(&mut pair, 0, 1));
-                let Some((at_i, at_j)) = outcome else { continue };
-                let left: Vec<_> = [at_i, at_j].into_iter().flatten().collect();
-                assert_eq!(left, pair.iter().map(of_plain).collect::<Vec<_>>());
-                // Only gates of one family fit, and nothing stands between them.
-                let (view, other) = (View::of(of_plain(&i)), View::of(of_plain(&j)));
-                assert_eq!(view.family, other.family);
-                assert!(view.may_pass(other.sets));
-                // The table stays.
-                for pattern in 0..27 {
-                    let before = plain::run(&[i.clone(), j.clone()], pattern);
-                    assert_eq!(plain::run(&pair, pattern), before);
-                }
-            }
-        }
-    }
-
-    /// The search with memory takes the same pairs in the same order.
-    #[test]
-    fn every_step_is_the_plain_procedures() {
-        let mut seed = 1u64;
-        let mut below = |end: u64| {
-            seed = seed
-                .wrapping_mul(6_364_136_223_846_793_005)
-                .wrapping_add(1_442_695_040_888_963_407);
-            (seed >> 33) % end
-        };
-        let mut steps = 0;
-        for round in 0..6_000 {
-            let count = 1 + round % 6;
-            let kinds: Vec<[u8; 8]> = (0..1 + below(10))
-                .map(|_| {
-                    let mut record = [3; 8];
-                    let target = below(count) as usize;
-                    record[0] = 1 + below(5) as u8;
-                    record[1] = target as u8;
-                    for line in (0..count as usize).filter(|&line| line != target) {
-                        record[2 + line] = below(4) as u8;
-                    }
-                    record
-                })
-                .collect();
-            let length = below(50);
-            let records: Vec<u8> =
-                (0..length).flat_map(|_| kinds[below(kinds.len() as u64) as usize]).collect();
-            let cascade = Cascade::check(lines(count as usize), &records).unwrap();
-            let mut rack = Rack::of(cascade.gates());
-            let mut gates = plain::gates(count as usize, &records);
-            loop {
-                let (step, plain_step) = (rack.step(), plain::step(&mut gates));
-                assert_eq!(step, plain_step);
-                let left: Vec<_> = rack.left().collect();
-                assert_eq!(left, gates.iter().map(of_plain).collect::<Vec<_>>());
-                if !step {
-                    break;
-                }
-                steps += 1;
-            }
-        }
-        assert!(steps > 30_000, "{steps} steps");
     }
 }

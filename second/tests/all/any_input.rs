@@ -1,13 +1,13 @@
 //! Any bytes and any numbers: every call ends, and only its answer and its own
 //! room tell that it was called.
 
+use drawing::Numbers;
 use second::cascade::{check, price, run};
 use second::choice::{cheaper, choose};
 use second::file::{next, opening, Reader};
 use second::table::check_table;
 
 use crate::calls::{invert, listing, read_file, sheet, synthesize, tabulate, tidy, write_file};
-use crate::helpers::Numbers;
 
 /// Bytes that are now and then a cascade, a file or nothing of the kind.
 fn some_bytes(numbers: &mut Numbers) -> Vec<u8> {
@@ -53,7 +53,7 @@ fn some_place(numbers: &mut Numbers) -> usize {
 
 #[test]
 fn nothing_panics_and_nothing_else_changes() {
-    let mut numbers = Numbers(21);
+    let mut numbers = Numbers::from_seed(21);
     let mut accepted = [0; 14];
     for _ in 0..60_000 {
         let (one, other) = (some_bytes(&mut numbers), some_bytes(&mut numbers));
@@ -93,7 +93,7 @@ fn nothing_panics_and_nothing_else_changes() {
 
 #[test]
 fn any_table() {
-    let mut numbers = Numbers(22);
+    let mut numbers = Numbers::from_seed(22);
     for _ in 0..20_000 {
         let lines = some_lines(&mut numbers);
         let length = match numbers.below(3) {

@@ -67,7 +67,7 @@ pub fn sheet(file: &[u8], room: usize) -> Answer<Vec<u8>> {
 pub fn tabulate(lines: u8, cascade: &[u8], room: usize) -> Answer<Vec<u16>> {
     let before: Vec<u16> = (0..room).map(|k| (k * 7 + 1_000) as u16).collect();
     let mut lent = before.clone();
-    match second::cascade::tabulate(lines, cascade, &mut lent) {
+    match second::tabulating::tabulate(lines, cascade, &mut lent) {
         Ok(entries) => {
             assert_eq!(lent[entries..], before[entries..], "entries beyond the output");
             lent.truncate(entries);

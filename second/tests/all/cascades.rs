@@ -1,11 +1,12 @@
 //! Running, tabulating, inverting and pricing against the plain reading.
 
+use drawing::Numbers;
 use second::cascade::{check, price, run};
 use second::gate::Gate;
 use second::pattern::{Digits, Lines};
 
 use crate::calls::{computed, invert};
-use crate::helpers::{identity, Numbers};
+use crate::helpers::identity;
 use crate::plain;
 
 #[test]
@@ -60,7 +61,7 @@ fn patterns_and_digits() {
 
 #[test]
 fn random_cascades_run_tabulate_invert_and_price() {
-    let mut numbers = Numbers(5);
+    let mut numbers = Numbers::from_seed(5);
     for round in 0..900 {
         let lines = 1 + round % 6;
         let n = lines as u8;
@@ -91,7 +92,7 @@ fn random_cascades_run_tabulate_invert_and_price() {
 
 #[test]
 fn the_longest_cascades() {
-    let mut numbers = Numbers(6);
+    let mut numbers = Numbers::from_seed(6);
     for lines in 1..=6 {
         let n = lines as u8;
         let records = numbers.cascade(lines, 8_000, 50);

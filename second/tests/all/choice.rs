@@ -1,10 +1,12 @@
 //! The cheaper of two.
 
+use drawing::Numbers;
 use second::cascade::price;
+use second::cases::gates;
 use second::choice::{cheaper, choose, FIRST, SECOND};
 
 use crate::calls::{computed, synthesized, tidy};
-use crate::helpers::{cascade, refused, Numbers};
+use crate::helpers::refused;
 use crate::plain;
 
 /// Chooses, and sees that `cheaper` hands back that cascade itself.
@@ -24,7 +26,7 @@ fn it_answers_1_or_2() {
 #[test]
 fn what_costs_less_then_fewer_gates_then_the_first() {
     // Twice the same swap: one reads off the global value, the other at it.
-    let (dear, cheap) = (cascade("D x0 x1=0, D x0 x1=0"), cascade("D x0 x1=2, D x0 x1=2"));
+    let (dear, cheap) = (gates("D x0 x1=0, D x0 x1=0"), gates("D x0 x1=2, D x0 x1=2"));
     assert_eq!(chosen(2, 2, &dear, &cheap), 2);
     assert_eq!(chosen(2, 2, &cheap, &dear), 1);
     assert_eq!(chosen(2, 0, &dear, &cheap), 1);
@@ -35,8 +37,8 @@ fn what_costs_less_then_fewer_gates_then_the_first() {
 
     // Equal cost, fewer gates: ten uncontrolled ones against two with two controls
     // at the value.
-    let many = cascade("D x0, D x0, D x0, D x0, D x0, D x0, D x0, D x0, D x0, D x0");
-    let few = cascade("D x0 x1=1 x2=1, D x0 x1=1 x2=1");
+    let many = gates("D x0, D x0, D x0, D x0, D x0, D x0, D x0, D x0, D x0, D x0");
+    let few = gates("D x0 x1=1 x2=1, D x0 x1=1 x2=1");
     assert_eq!((price(3, 1, &many), price(3, 1, &few)), (Ok(10), Ok(10)));
     assert_eq!(chosen(3, 1, &many, &few), 2);
     assert_eq!(chosen(3, 1, &few, &many), 1);
@@ -47,7 +49,7 @@ fn what_costs_less_then_fewer_gates_then_the_first() {
 
 #[test]
 fn the_empty_cascade() {
-    let nothing = cascade("N x0, N x0");
+    let nothing = gates("N x0, N x0");
     assert_eq!(chosen(1, 0, &[], &nothing), 1);
     assert_eq!(chosen(1, 0, &nothing, &[]), 2);
     assert_eq!(chosen(1, 0, &[], &[]), 1);
@@ -58,7 +60,7 @@ fn the_empty_cascade() {
 
 #[test]
 fn a_difference_is_told_at_the_first_input() {
-    let mut numbers = Numbers(7);
+    let mut numbers = Numbers::from_seed(7);
     let mut equal = 0;
     for round in 0..3_000 {
         let lines = 1 + round % 6;

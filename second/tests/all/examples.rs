@@ -1,11 +1,12 @@
 //! The worked examples of document 01.
 
 use second::cascade::{check, price, run};
+use second::cases::gates;
 use second::gate::Operator;
 use second::tidying::Tidied;
 
 use crate::calls::{computed, listing, synthesize, synthesized, tidy};
-use crate::helpers::{cascade, identity, refused, BOUND};
+use crate::helpers::{identity, refused, BOUND};
 
 const VECTOR_OF_003: [u16; 9] = [5, 6, 1, 7, 2, 3, 8, 0, 4];
 
@@ -73,11 +74,11 @@ fn p1_the_identity_takes_no_gates() {
 
 #[test]
 fn p2_the_bound_on_one_line() {
-    let gates = synthesized(1, &[1, 2, 0]);
-    assert_eq!(gates, cascade("D x0, E x0"));
-    assert_eq!(price(1, 2, &gates), Ok(2));
-    assert_eq!(gates.len(), 8 * BOUND[1]);
-    assert_eq!(listing(1, &gates, 100), Ok(b"lines 1 gates 2 cost 2\nD x0\nE x0\n".to_vec()));
+    let found = synthesized(1, &[1, 2, 0]);
+    assert_eq!(found, gates("D x0, E x0"));
+    assert_eq!(price(1, 2, &found), Ok(2));
+    assert_eq!(found.len(), 8 * BOUND[1]);
+    assert_eq!(listing(1, &found, 100), Ok(b"lines 1 gates 2 cost 2\nD x0\nE x0\n".to_vec()));
 }
 
 #[test]
@@ -96,10 +97,10 @@ fn p3_to_p7_tables_that_are_refused() {
 }
 
 /// Tidies to these gates in so many steps.
-fn tidies(lines: u8, gates: &str, left: &str, steps: usize) {
-    let (gates, left) = (cascade(gates), cascade(left));
-    assert_eq!(tidy(lines, &gates), Ok((Tidied { gates: left.len() / 8, steps }, left.clone())));
-    assert_eq!(computed(lines, &gates), computed(lines, &left));
+fn tidies(lines: u8, given: &str, left: &str, steps: usize) {
+    let (given, left) = (gates(given), gates(left));
+    assert_eq!(tidy(lines, &given), Ok((Tidied { gates: left.len() / 8, steps }, left.clone())));
+    assert_eq!(computed(lines, &given), computed(lines, &left));
 }
 
 #[test]
@@ -111,12 +112,12 @@ fn p8_merge_and_p9_cancel() {
 #[test]
 fn p10_and_p11_control_reduction() {
     tidies(2, "C1 x0 x1=0, C1 x0 x1=1", "C1 x0, C2 x0 x1=2", 1);
-    assert_eq!(price(2, 2, &cascade("C1 x0 x1=0, C1 x0 x1=1")), Ok(6));
-    assert_eq!(price(2, 2, &cascade("C1 x0, C2 x0 x1=2")), Ok(2));
+    assert_eq!(price(2, 2, &gates("C1 x0 x1=0, C1 x0 x1=1")), Ok(6));
+    assert_eq!(price(2, 2, &gates("C1 x0, C2 x0 x1=2")), Ok(2));
 
     tidies(2, "D x0 x1=0, D x0 x1=2", "D x0, D x0 x1=1", 1);
-    assert_eq!(price(2, 2, &cascade("D x0 x1=0, D x0 x1=2")), Ok(4));
-    assert_eq!(price(2, 2, &cascade("D x0, D x0 x1=1")), Ok(4));
+    assert_eq!(price(2, 2, &gates("D x0 x1=0, D x0 x1=2")), Ok(4));
+    assert_eq!(price(2, 2, &gates("D x0, D x0 x1=1")), Ok(4));
 }
 
 #[test]
@@ -139,7 +140,7 @@ fn room_13_at_n_2_and_8001_gates() {
     assert_eq!(synthesize(2, &VECTOR_OF_003, 8 * 13 + 7), refused(5, 14));
     assert!(synthesize(2, &VECTOR_OF_003, 8 * 14).is_ok());
 
-    let gates = |count| cascade("N x0").repeat(count);
+    let gates = |count| gates("N x0").repeat(count);
     assert_eq!(check(1, &gates(8_000)), Ok(8_000));
     assert_eq!(check(1, &gates(8_001)), refused(6, 0));
 }
@@ -149,15 +150,15 @@ fn base_prices() {
     // Every control at the global value.
     let gate = ["C1 x5", " x0=1", " x1=1", " x2=1", " x3=1", " x4=1"];
     for (controls, price_asked) in [1, 1, 5, 15, 35, 75].into_iter().enumerate() {
-        let gate = cascade(&gate[..=controls].concat());
+        let gate = gates(&gate[..=controls].concat());
         assert_eq!(price(6, 1, &gate), Ok(price_asked));
         // And every control off it.
         assert_eq!(price(6, 0, &gate), Ok(price_asked + 2 * controls as u32));
         assert_eq!(price(6, 2, &gate), Ok(price_asked + 2 * controls as u32));
     }
-    assert_eq!(price(6, 2, &cascade("C1 x5 x0=0 x1=1 x2=2")), Ok(15 + 4));
+    assert_eq!(price(6, 2, &gates("C1 x5 x0=0 x1=1 x2=2")), Ok(15 + 4));
     // The dearest cascade.
-    let dearest = cascade("D x0 x1=0 x2=0 x3=0 x4=0 x5=0").repeat(8_000);
+    let dearest = gates("D x0 x1=0 x2=0 x3=0 x4=0 x5=0").repeat(8_000);
     assert_eq!(price(6, 2, &dearest), Ok(680_000));
 }
 
@@ -166,22 +167,22 @@ mod known_ways_to_get_it_wrong {
 
     #[test]
     fn listing_the_gates_in_the_order_found() {
-        assert_eq!(synthesized(1, &[1, 2, 0]), cascade("D x0, E x0"));
-        assert_eq!(computed(1, &cascade("E x0, D x0")), [2, 0, 1]);
+        assert_eq!(synthesized(1, &[1, 2, 0]), gates("D x0, E x0"));
+        assert_eq!(computed(1, &gates("E x0, D x0")), [2, 0, 1]);
     }
 
     #[test]
     fn using_c2_for_2_to_1() {
         // Row 1 of 0 2 1: D moves 2 and 1 only, C2 would move 0.
-        assert_eq!(synthesized(1, &[0, 2, 1]), cascade("D x0"));
-        assert_eq!(run(1, &cascade("C2 x0"), 0), Ok(2));
-        assert_eq!(run(1, &cascade("C2 x0"), 2), Ok(1));
+        assert_eq!(synthesized(1, &[0, 2, 1]), gates("D x0"));
+        assert_eq!(run(1, &gates("C2 x0"), 0), Ok(2));
+        assert_eq!(run(1, &gates("C2 x0"), 2), Ok(1));
     }
 
     #[test]
     fn control_reduction_that_ends_the_wrong_way_round() {
-        let given = cascade("C1 x0 x1=0, C1 x0 x1=1");
-        let wrong = cascade("C2 x0, C1 x0 x1=2");
+        let given = gates("C1 x0 x1=0, C1 x0 x1=1");
+        let wrong = gates("C2 x0, C1 x0 x1=2");
         assert_ne!(computed(2, &given), computed(2, &wrong));
         assert_ne!(tidy(2, &given).unwrap().1, wrong);
     }
@@ -204,8 +205,8 @@ mod known_ways_to_get_it_wrong {
         // and row 0 holds that already.
         let mut table = identity(2);
         table.swap(1, 6);
-        let gates = synthesized(2, &table);
-        assert_eq!(gates[gates.len() - 16..], cascade("N x1 x0=1, E x0 x1=2"));
-        assert_eq!(computed(2, &gates), table);
+        let found = synthesized(2, &table);
+        assert_eq!(found[found.len() - 16..], gates("N x1 x0=1, E x0 x1=2"));
+        assert_eq!(computed(2, &found), table);
     }
 }

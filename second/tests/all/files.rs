@@ -1,11 +1,14 @@
 //! Cascade files there and back, damaged files, and readers good and made up.
 
+use drawing::Numbers;
+use second::answer::Answer;
+use second::cases::gates;
 use second::file::{next, opening, Contents, Opening, Reader};
 use second::gate::Gate;
 use second::pattern::Lines;
 
 use crate::calls::{read_file, write_file};
-use crate::helpers::{cascade, refused, Numbers};
+use crate::helpers::refused;
 use crate::plain;
 
 /// A record that is known to be good.
@@ -15,7 +18,7 @@ fn gate(lines: u8, record: &[u8]) -> Gate {
 
 #[test]
 fn a_file_byte_for_byte() {
-    let file = write_file(3, &cascade("D x0 x2=1, C2 x1"), b"AB", 100).unwrap();
+    let file = write_file(3, &gates("D x0 x2=1, C2 x1"), b"AB", 100).unwrap();
     #[rustfmt::skip]
     assert_eq!(file, [
         b'A', b'B',
@@ -25,13 +28,13 @@ fn a_file_byte_for_byte() {
     ]);
     assert_eq!(write_file(6, &[], b"", 8), Ok(vec![0, 0, 0, 0, 0, 0, 6, 1]));
     // 8,000 gates: 64,000 is 0xfa00 and 8,000 is 0x1f40.
-    let file = write_file(1, &cascade("E x0").repeat(8_000), b"", 70_000).unwrap();
+    let file = write_file(1, &gates("E x0").repeat(8_000), b"", 70_000).unwrap();
     assert_eq!(file[64_000..], [0x00, 0xfa, 0, 0, 0x40, 0x1f, 1, 1]);
 }
 
 #[test]
 fn what_was_written_reads_back() {
-    let mut numbers = Numbers(1);
+    let mut numbers = Numbers::from_seed(1);
     for _ in 0..2_000 {
         let lines = 1 + numbers.below(6);
         let gates = numbers.below(20);
@@ -46,33 +49,28 @@ fn what_was_written_reads_back() {
     }
 }
 
+/// A file with a byte or two changed, or cut, or as it was written.
+fn some_file(numbers: &mut Numbers) -> Vec<u8> {
+    let (lines, gates, note) = (1 + numbers.below(6), numbers.below(6), numbers.below(12));
+    let note = numbers.bytes(note);
+    let mut file = plain::write_file(lines as u8, &numbers.cascade(lines, gates, 50), &note);
+    for _ in 0..numbers.below(3) {
+        numbers.change_a_byte(&mut file);
+    }
+    match numbers.below(6) {
+        0 => file.truncate(numbers.below(file.len())),
+        1 => drop(file.drain(..numbers.below(file.len()))),
+        _ => {}
+    }
+    file
+}
+
 #[test]
 fn an_accepted_file_writes_back_to_the_same_bytes() {
-    // Any bytes with a good trailer behind them, and what damage leaves of files.
-    let mut numbers = Numbers(2);
+    let mut numbers = Numbers::from_seed(2);
     let (mut accepted, mut refused) = (0, 0);
     for _ in 0..40_000 {
-        let lines = 1 + numbers.below(6);
-        let gates = numbers.below(6);
-        let mut file = {
-            let length = numbers.below(12);
-            let note = numbers.bytes(length);
-            plain::write_file(lines as u8, &numbers.cascade(lines, gates, 50), &note)
-        };
-        for _ in 0..numbers.below(3) {
-            let place = numbers.below(file.len());
-            file[place] = match numbers.below(3) {
-                0 => numbers.byte(),
-                1 => numbers.below(7) as u8,
-                _ => file[place] ^ 1 << numbers.below(8),
-            };
-        }
-        match numbers.below(6) {
-            0 => file.truncate(numbers.below(file.len())),
-            1 => drop(file.drain(..numbers.below(file.len()))),
-            _ => {}
-        }
-
+        let file = some_file(&mut numbers);
         let plainly = plain::read_file(&file);
         let answer = read_file(&file, 70_000, 2_000);
         match (plainly, answer) {
@@ -100,7 +98,7 @@ fn an_accepted_file_writes_back_to_the_same_bytes() {
 
 #[test]
 fn a_reader_hands_out_the_gates_and_stays_at_the_end() {
-    let mut numbers = Numbers(3);
+    let mut numbers = Numbers::from_seed(3);
     for _ in 0..500 {
         let lines = 1 + numbers.below(6) as u8;
         let count = numbers.below(12);
@@ -129,7 +127,7 @@ fn a_reader_hands_out_the_gates_and_stays_at_the_end() {
 
 #[test]
 fn a_refused_opening_is_a_reader_of_nothing() {
-    let good = write_file(2, &cascade("D x0"), b"n", 100).unwrap();
+    let good = write_file(2, &gates("D x0"), b"n", 100).unwrap();
     for change in 0..good.len() - 8 {
         let mut file = good.clone();
         file[change + 1] = 9;
@@ -143,23 +141,25 @@ fn a_refused_opening_is_a_reader_of_nothing() {
     }
 }
 
+/// The next gate by place. The reader that holds the file says the same and moves
+/// past gates only.
+fn read_both(file: &[u8], lines: u8, place: usize, end: usize) -> Answer<Option<Gate>> {
+    let answer = next(file, lines, place, end);
+    let before = Reader { file, lines, place, end };
+    let mut reader = before;
+    assert_eq!(reader.next(), answer);
+    let moved = Reader { place: place.wrapping_add(8), ..before };
+    assert_eq!(reader, if let Ok(Some(_)) = answer { moved } else { before });
+    answer
+}
+
 #[test]
 fn made_up_readers() {
     // 0 to 2 a note, 3 to 18 two records, 19 to 26 the trailer.
-    let file = write_file(2, &cascade("D x0, C1 x1 x0=2"), b"abc", 100).unwrap();
+    let file = write_file(2, &gates("D x0, C1 x1 x0=2"), b"abc", 100).unwrap();
     let first = gate(2, &file[3..11]);
     let second = gate(2, &file[11..19]);
-    let given = |lines, place, end| {
-        let answer = next(&file, lines, place, end);
-        // The reader that holds the file says the same and moves past gates only.
-        let before = Reader { file: &file, lines, place, end };
-        let mut reader = before;
-        assert_eq!(reader.next(), answer);
-        let moved = Reader { place: place.wrapping_add(8), ..before };
-        assert_eq!(reader, if let Ok(Some(_)) = answer { moved } else { before });
-        answer
-    };
-
+    let given = |lines, place, end| read_both(&file, lines, place, end);
     assert_eq!(given(2, 3, 19), Ok(Some(first)));
     assert_eq!(given(2, 11, 19), Ok(Some(second)));
     // The smaller of the two ends counts.
@@ -184,7 +184,12 @@ fn made_up_readers() {
     assert_eq!(given(1, 3, 19), Ok(Some(first)));
     assert_eq!(given(1, 11, 19), refused(7, 11));
     assert_eq!(given(6, 11, 19), Ok(Some(second)));
+}
 
+#[test]
+fn readers_far_out_and_on_no_lines() {
+    let file = write_file(2, &gates("D x0, C1 x1 x0=2"), b"abc", 100).unwrap();
+    let given = |lines, place, end| read_both(&file, lines, place, end);
     // No place is large enough to wrap round.
     for place in [usize::MAX, usize::MAX - 1, usize::MAX - 7, usize::MAX - 8, usize::MAX / 2] {
         for end in [0, 19, 27, usize::MAX - 8, usize::MAX] {
@@ -204,7 +209,7 @@ fn made_up_readers() {
 
 #[test]
 fn made_up_readers_over_any_bytes() {
-    let mut numbers = Numbers(4);
+    let mut numbers = Numbers::from_seed(4);
     let mut gates = 0;
     for _ in 0..50_000 {
         let length = numbers.below(30);

@@ -1,12 +1,15 @@
 //! The printed text, and the program's.
 
+use drawing::Numbers;
+
 use crate::calls::{listing, sheet, synthesized};
-use crate::helpers::{cascade, refused, Numbers};
+use crate::helpers::refused;
 use crate::plain;
+use second::cases::gates;
 
 #[test]
 fn any_cascade_is_listed_as_the_document_says() {
-    let mut numbers = Numbers(1);
+    let mut numbers = Numbers::from_seed(1);
     for round in 0..3_000 {
         let lines = 1 + round % 6;
         let gates = numbers.below(if round % 50 == 0 { 2_000 } else { 12 });
@@ -19,7 +22,7 @@ fn any_cascade_is_listed_as_the_document_says() {
 
 #[test]
 fn the_longest_listing_has_248_031_bytes() {
-    let dearest = cascade("C1 x0 x1=0 x2=0 x3=0 x4=0 x5=0").repeat(8_000);
+    let dearest = gates("C1 x0 x1=0 x2=0 x3=0 x4=0 x5=0").repeat(8_000);
     assert_eq!(listing(6, &dearest, 248_030), refused(5, 248_031));
     let text = listing(6, &dearest, 248_031).unwrap();
     assert!(text.starts_with(b"lines 6 gates 8000 cost 680000\nC1 x0 x1=0 x2=0 x3=0 x4=0 x5=0\n"));
@@ -43,7 +46,7 @@ fn text(file: &[u8]) -> String {
 
 #[test]
 fn the_program_lists_the_tables_cascade() {
-    let mut numbers = Numbers(2);
+    let mut numbers = Numbers::from_seed(2);
     for lines in 1..=6 {
         for _ in 0..10 {
             let table = numbers.table(lines);

@@ -20,6 +20,8 @@ mod plain;
 mod program;
 mod published;
 mod refusals;
+mod refusals_of_files;
+mod steps;
 mod synthesis;
 mod tidying;
 mod vectors;

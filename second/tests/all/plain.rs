@@ -1,7 +1,5 @@
 //! Document 01 word for word: numbers, lists and loops, nothing clever.
 
-#![allow(dead_code)]
-
 #[derive(Clone, Copy, Debug, PartialEq, Eq)]
 pub enum Op {
     C1,
@@ -12,8 +10,6 @@ pub enum Op {
 }
 
 use Op::{C1, C2, D, E, N};
-
-pub const OPS: [Op; 5] = [C1, C2, N, D, E];
 
 #[derive(Clone, Debug, PartialEq, Eq)]
 pub struct Gate {
@@ -130,6 +126,20 @@ pub fn encode(gate: &Gate) -> [u8; 8] {
 /// The gates of a good cascade.
 pub fn gates(lines: usize, cascade: &[u8]) -> Vec<Gate> {
     cascade.chunks(8).map(|record| decode(lines, record).expect("a gate")).collect()
+}
+
+/// Every gate on so many lines.
+pub fn all_gates(lines: usize) -> Vec<Gate> {
+    let records = (0..5 * lines * 4usize.pow(lines as u32)).map(|code| {
+        let mut record = [3; 8];
+        record[0] = 1 + (code % 5) as u8;
+        record[1] = (code / 5 % lines) as u8;
+        for line in 0..lines {
+            record[2 + line] = ((code / 5 / lines) >> (2 * line) & 3) as u8;
+        }
+        record
+    });
+    records.filter_map(|record| decode(lines, &record)).collect()
 }
 
 pub fn bytes(gates: &[Gate]) -> Vec<u8> {

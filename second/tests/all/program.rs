@@ -3,10 +3,9 @@
 use std::io::Write;
 use std::process::{Command, Output, Stdio};
 
+use drawing::Numbers;
 use second::cases::cases;
 use second::vectors::{lines, write_cases};
-
-use crate::helpers::Numbers;
 
 fn program(arguments: &[&str], input: &[u8]) -> Output {
     let mut child = Command::new(env!("CARGO_BIN_EXE_second"))
@@ -23,7 +22,7 @@ fn program(arguments: &[&str], input: &[u8]) -> Output {
 
 #[test]
 fn it_prints_what_the_library_says() {
-    let mut numbers = Numbers(23);
+    let mut numbers = Numbers::from_seed(23);
     let mut inputs = vec![vec![], vec![0], vec![1], vec![7; 100], vec![6; 1_459], vec![6; 1_460]];
     inputs.push(vec![3; 1_000_000]);
     for lines in 1..=6 {

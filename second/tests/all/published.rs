@@ -1,9 +1,9 @@
 //! The gate tables that the papers 000, 001 and 003 print.
 
 use second::cascade::{price, run};
+use second::cases::gates;
 use second::gate::Operator::{self, C1, C2, D, E, N};
 
-use crate::helpers::cascade;
 use crate::plain;
 
 /// One after the other, the right one first as the papers write it.
@@ -37,7 +37,7 @@ fn table_1_of_000_and_001() {
     // The same through cascades on one line.
     for (gate, operator) in [("C1 x0", C1), ("C2 x0", C2), ("N x0", N), ("D x0", D), ("E x0", E)] {
         for x in 0..3 {
-            assert_eq!(run(1, &cascade(gate), x), Ok(operator.act(x as u8) as u16));
+            assert_eq!(run(1, &gates(gate), x), Ok(operator.act(x as u8) as u16));
         }
     }
 }
@@ -92,20 +92,20 @@ fn transition_options_of_000_and_001() {
 #[test]
 fn cost_steps_of_000_and_001() {
     // A base cost of 1, 1, 5, 15 for 0 to 3 controls, then 5 + 2 × the one before.
-    let gates =
+    let texts =
         ["N x3", "N x3 x0=2", "N x3 x0=2 x1=2", "N x3 x0=2 x1=2 x2=2", "N x3 x0=2 x1=2 x2=2 x4=2"];
-    let costs = gates.map(|gate| price(6, 2, &cascade(gate)).unwrap());
+    let costs = texts.map(|text| price(6, 2, &gates(text)).unwrap());
     assert_eq!(costs, [1, 1, 5, 15, 35]);
     assert_eq!(costs[4], 5 + 2 * costs[3]);
-    let five = price(6, 2, &cascade("N x3 x0=2 x1=2 x2=2 x4=2 x5=2")).unwrap();
+    let five = price(6, 2, &gates("N x3 x0=2 x1=2 x2=2 x4=2 x5=2")).unwrap();
     assert_eq!(five, 5 + 2 * costs[4]);
     // 2 more for each control off the global value.
-    assert_eq!(price(6, 2, &cascade("N x3 x0=1 x1=2 x2=0")), Ok(15 + 4));
-    assert_eq!(price(6, 1, &cascade("N x3 x0=1 x1=2 x2=0")), Ok(15 + 4));
-    assert_eq!(price(6, 1, &cascade("N x3 x0=1 x1=1 x2=0")), Ok(15 + 2));
+    assert_eq!(price(6, 2, &gates("N x3 x0=1 x1=2 x2=0")), Ok(15 + 4));
+    assert_eq!(price(6, 1, &gates("N x3 x0=1 x1=2 x2=0")), Ok(15 + 4));
+    assert_eq!(price(6, 1, &gates("N x3 x0=1 x1=1 x2=0")), Ok(15 + 2));
     // Every operator is available and costs the same.
     for operator in ["C1", "C2", "N", "D", "E"] {
-        assert_eq!(price(6, 0, &cascade(&format!("{operator} x1 x5=0"))), Ok(1));
+        assert_eq!(price(6, 0, &gates(&format!("{operator} x1 x5=0"))), Ok(1));
     }
 }
 

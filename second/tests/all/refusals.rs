@@ -4,15 +4,13 @@
 
 use second::answer::Refusal;
 use second::cascade::{check, price, run};
+use second::cases::{gates, RIGHT_RECORD, WRONG_RECORDS};
 use second::choice::{cheaper, choose};
-use second::file::opening;
 use second::table::check_table;
 
-use crate::calls::{invert, listing, read_file, synthesize, tabulate, tidy, write_file};
-use crate::helpers::{cascade, identity, refused, BOUND};
+use crate::calls::{invert, listing, synthesize, tabulate, tidy, write_file};
+use crate::helpers::{identity, refused, BOUND, NO_LINES};
 use crate::plain;
-
-const NO_LINES: [u8; 6] = [0, 7, 8, 100, 254, 255];
 
 /// All calls on one cascade with ample room: what each answers, without its
 /// values. Their refusals 1, 6 and 7 must agree.
@@ -41,12 +39,12 @@ fn all_answer(lines: u8, bytes: &[u8], answer: Result<(), Refusal>) {
 #[test]
 fn one_lines_from_1_to_6() {
     for lines in 1..=6 {
-        all_answer(lines, &cascade("D x0"), Ok(()));
+        all_answer(lines, &gates("D x0"), Ok(()));
         assert_eq!(check_table(lines, &identity(lines as usize)), Ok(()));
         assert_eq!(synthesize(lines, &identity(lines as usize), 8 * 4_010), Ok(vec![]));
     }
     for lines in NO_LINES {
-        all_answer(lines, &cascade("D x0"), refused(1, 0));
+        all_answer(lines, &gates("D x0"), refused(1, 0));
         all_answer(lines, &[], refused(1, 0));
         // Whatever else is wrong.
         all_answer(lines, &[0; 13], refused(1, 0));
@@ -132,35 +130,35 @@ fn five_synthesis_asks_the_bound_even_for_the_identity() {
 
 #[test]
 fn five_the_other_rooms() {
-    let gates = cascade("D x0, C1 x1 x0=2, C2 x0");
+    let three = gates("D x0, C1 x1 x0=2, C2 x0");
     for lines in 2..=6u8 {
         let entries = 3usize.pow(lines as u32);
-        assert_eq!(tabulate(lines, &gates, entries - 1), refused(5, entries));
-        assert_eq!(tabulate(lines, &gates, 0), refused(5, entries));
+        assert_eq!(tabulate(lines, &three, entries - 1), refused(5, entries));
+        assert_eq!(tabulate(lines, &three, 0), refused(5, entries));
         for room in [entries, entries + 1, 1_000] {
-            assert_eq!(tabulate(lines, &gates, room).map(|table| table.len()), Ok(entries));
+            assert_eq!(tabulate(lines, &three, room).map(|table| table.len()), Ok(entries));
         }
     }
-    let inverse = cascade("C1 x0, C2 x1 x0=2, D x0");
+    let inverse = gates("C1 x0, C2 x1 x0=2, D x0");
     for room in [0, 8, 16, 23] {
-        assert_eq!(invert(2, &gates, room), refused(5, 3));
+        assert_eq!(invert(2, &three, room), refused(5, 3));
     }
     for room in [24, 25, 31, 32, 1_000] {
-        assert_eq!(invert(2, &gates, room), Ok(inverse.clone()));
+        assert_eq!(invert(2, &three, room), Ok(inverse.clone()));
     }
     let text = b"lines 2 gates 3 cost 3\nD x0\nC1 x1 x0=2\nC2 x0\n";
     for room in [0, 1, text.len() - 1] {
-        assert_eq!(listing(2, &gates, room), refused(5, text.len()));
+        assert_eq!(listing(2, &three, room), refused(5, text.len()));
     }
     for room in [text.len(), text.len() + 1, 10_000] {
-        assert_eq!(listing(2, &gates, room), Ok(text.to_vec()));
+        assert_eq!(listing(2, &three, room), Ok(text.to_vec()));
     }
     let size = 4 + 24 + 8;
     for room in [0, 8, size - 1] {
-        assert_eq!(write_file(2, &gates, b"note", room), refused(5, size));
+        assert_eq!(write_file(2, &three, b"note", room), refused(5, size));
     }
     for room in [size, size + 1, 1_000] {
-        assert_eq!(write_file(2, &gates, b"note", room).map(|file| file.len()), Ok(size));
+        assert_eq!(write_file(2, &three, b"note", room).map(|file| file.len()), Ok(size));
     }
     // Nothing to write needs no room.
     assert_eq!(invert(1, &[], 0), Ok(vec![]));
@@ -184,7 +182,7 @@ fn six_whole_records_and_at_most_8000() {
         (64_008, refused(6, 0)),
         (640_000, refused(6, 0)),
     ] {
-        let mut bytes = cascade("D x0, N x0").repeat(40_000);
+        let mut bytes = gates("D x0, N x0").repeat(40_000);
         bytes.truncate(length);
         all_answer(3, &bytes, answer);
         if answer.is_err() {
@@ -201,34 +199,15 @@ fn six_whole_records_and_at_most_8000() {
 
 #[test]
 fn seven_the_first_record_that_is_no_gate() {
-    let good = [2, 1, 0, 3, 2, 3, 3, 3];
     for lines in 2..=6 {
         // On two lines the control on x2 is too much.
         let answer = if lines == 2 { refused(7, 0) } else { Ok(()) };
-        all_answer(lines, &good, answer);
+        all_answer(lines, &RIGHT_RECORD, answer);
     }
     let lines = 4;
-    let bad: [[u8; 8]; 16] = [
-        [0, 1, 0, 3, 2, 3, 3, 3],
-        [6, 1, 0, 3, 2, 3, 3, 3],
-        [255, 1, 0, 3, 2, 3, 3, 3],
-        [2, 4, 0, 1, 2, 3, 3, 3],
-        [2, 6, 0, 1, 2, 3, 3, 3],
-        [2, 255, 0, 1, 2, 3, 3, 3],
-        [2, 1, 4, 3, 2, 3, 3, 3],
-        [2, 1, 255, 3, 2, 3, 3, 3],
-        [2, 1, 0, 0, 2, 3, 3, 3],
-        [2, 1, 0, 2, 2, 3, 3, 3],
-        [2, 1, 0, 3, 2, 3, 0, 3],
-        [2, 1, 0, 3, 2, 3, 3, 2],
-        [2, 1, 0, 3, 2, 3, 3, 4],
-        [2, 1, 0, 3, 2, 3, 3, 131],
-        [2, 1, 0, 4, 2, 3, 3, 3],
-        [0; 8],
-    ];
-    for record in bad {
+    for record in WRONG_RECORDS {
         for place in [0, 1, 5, 7_999] {
-            let mut bytes = good.repeat(8_000);
+            let mut bytes = RIGHT_RECORD.repeat(8_000);
             bytes[8 * place..8 * place + 8].copy_from_slice(&record);
             all_answer(lines, &bytes, refused(7, place));
             // A later one doesn't count; 8 and 5 and the note's 9 come after.
@@ -272,33 +251,33 @@ fn eight_the_pattern_is_below_3_to_the_n() {
         }
         for pattern in [end, end + 1, 729, 730, u16::MAX] {
             assert_eq!(run(lines, &[], pattern), refused(8, 0));
-            assert_eq!(run(lines, &cascade("C1 x0, N x0"), pattern), refused(8, 0));
+            assert_eq!(run(lines, &gates("C1 x0, N x0"), pattern), refused(8, 0));
         }
     }
 }
 
 #[test]
 fn nine_the_note_has_at_most_1024_bytes() {
-    let gates = cascade("D x0, E x0");
+    let two = gates("D x0, E x0");
     for (length, answer) in
         [(0, Ok(24)), (1, Ok(25)), (1_023, Ok(1_047)), (1_024, Ok(1_048)), (1_025, refused(9, 0))]
     {
         let note = vec![7; length];
-        assert_eq!(write_file(1, &gates, &note, 70_000).map(|file| file.len()), answer);
+        assert_eq!(write_file(1, &two, &note, 70_000).map(|file| file.len()), answer);
         // 9 before 5.
         let without_room = answer.and_then(|size| refused::<usize>(5, size));
-        assert_eq!(write_file(1, &gates, &note, 0).map(|file| file.len()), without_room);
+        assert_eq!(write_file(1, &two, &note, 0).map(|file| file.len()), without_room);
     }
-    assert_eq!(write_file(1, &gates, &[0; 100_000], 0), refused(9, 0));
+    assert_eq!(write_file(1, &two, &[0; 100_000], 0), refused(9, 0));
     // The longest file.
-    let longest = cascade("D x0").repeat(8_000);
+    let longest = gates("D x0").repeat(8_000);
     assert_eq!(write_file(1, &longest, &[0; 1_024], 65_031), refused(5, 65_032));
     assert_eq!(write_file(1, &longest, &[0; 1_024], 65_032).map(|file| file.len()), Ok(65_032));
 }
 
 #[test]
 fn ten_the_global_value_is_at_most_2() {
-    let gates = cascade("D x0 x1=2");
+    let gates = gates("D x0 x1=2");
     for value in 0..=2 {
         assert!(price(2, value, &gates).is_ok());
         assert!(choose(2, value, &gates, &gates).is_ok());
@@ -315,7 +294,7 @@ fn ten_the_global_value_is_at_most_2() {
 
 #[test]
 fn eleven_and_the_order_of_the_two_cascades() {
-    let (good, other) = (cascade("D x0, N x1 x0=2"), cascade("D x0"));
+    let (good, other) = (gates("D x0, N x1 x0=2"), gates("D x0"));
     let odd = &good[..9];
     let bad = [&other[..], &[0; 8], &other[..]].concat();
     assert_eq!(choose(2, 0, &good, &good), Ok(1));
@@ -334,7 +313,7 @@ fn eleven_and_the_order_of_the_two_cascades() {
 
 #[test]
 fn a_refusal_hands_back_the_first_cascades_empty_part() {
-    let (first, second) = (cascade("D x0, N x1 x0=2"), cascade("D x0"));
+    let (first, second) = (gates("D x0, N x1 x0=2"), gates("D x0"));
     let refusals: [(u8, u8, &[u8], &[u8]); 6] = [
         (0, 0, &first, &first),
         (2, 3, &first, &first),
@@ -347,115 +326,5 @@ fn a_refusal_hands_back_the_first_cascades_empty_part() {
         assert!(choose(lines, value, one, other).is_err());
         let part = cheaper(lines, value, one, other);
         assert!(part.is_empty() && std::ptr::eq(part.as_ptr(), one.as_ptr()));
-    }
-}
-
-mod files {
-    use super::*;
-
-    /// A file on two lines, a note of 5 bytes and 3 gates.
-    fn file() -> Vec<u8> {
-        write_file(2, &cascade("D x0, C1 x1 x0=2, C2 x0"), b"hello", 1_000).unwrap()
-    }
-
-    /// Reading and opening refuse alike.
-    fn both_refuse(file: &[u8], number: u8, place: usize) {
-        assert_eq!(read_file(file, 70_000, 2_000), refused(number, place));
-        assert_eq!(read_file(file, 0, 0), refused(number, place), "5 comes last");
-        assert_eq!(opening(file), refused(number, place));
-    }
-
-    fn changed(change: impl FnOnce(&mut Vec<u8>)) -> Vec<u8> {
-        let mut file = file();
-        change(&mut file);
-        file
-    }
-
-    #[test]
-    fn nine_the_frame() {
-        assert!(opening(&file()).is_ok());
-        for length in 0..8 {
-            both_refuse(&[1; 8][..length], 9, 0);
-            // The start and the end of a good file alike.
-            both_refuse(&file()[..length], 9, 0);
-            both_refuse(&file()[file().len() - length..], 9, 0);
-        }
-        let trailer = file().len() - 8;
-        for edition in [0, 2, 3, 255] {
-            both_refuse(&changed(|file| file[trailer + 7] = edition), 9, 0);
-        }
-        // The distance, each byte of it, then the count.
-        for (byte, value) in
-            [(0, 16), (0, 25), (0, 23), (1, 1), (2, 1), (3, 1), (4, 2), (4, 4), (5, 1)]
-        {
-            both_refuse(&changed(|file| file[trailer + byte] = value), 9, 0);
-        }
-        // Distance and count agree, but the file has no room for four records.
-        both_refuse(&changed(|file| (file[trailer], file[trailer + 4]) = (32, 4)), 9, 0);
-        // With three more bytes of note it would: then the note is in the way.
-        let mut longer = vec![3; 3];
-        longer.extend(changed(|file| (file[trailer], file[trailer + 4]) = (32, 4)));
-        both_refuse(&longer, 7, 0);
-        // A distance that only 64-bit words can hold against the count.
-        both_refuse(&[0, 0, 0, 128, 0, 0, 2, 1], 9, 0);
-        both_refuse(&[255, 255, 255, 255, 255, 255, 2, 1], 9, 0);
-    }
-
-    #[test]
-    fn nine_the_note() {
-        let gates = cascade("D x0");
-        for (length, fits) in
-            [(0, true), (1_023, true), (1_024, true), (1_025, false), (9_999, false)]
-        {
-            let file = plain::write_file(1, &gates, &vec![5; length]);
-            assert_eq!(opening(&file).is_ok(), fits);
-            assert_eq!(read_file(&file, 8, length).is_ok(), fits);
-            if !fits {
-                both_refuse(&file, 9, 0);
-            }
-        }
-    }
-
-    #[test]
-    fn nine_before_one_before_six_before_seven() {
-        let trailer = file().len() - 8;
-        for lines in NO_LINES {
-            both_refuse(&changed(|file| file[trailer + 6] = lines), 1, 0);
-            both_refuse(&changed(|file| (file[trailer], file[trailer + 6]) = (1, lines)), 9, 0);
-            // Bad records and too many of them come after 1.
-            both_refuse(&plain::write_file(lines, &[0; 64_008], b""), 1, 0);
-        }
-        // The gates have two lines: on one line gate 1 is none.
-        both_refuse(&changed(|file| file[trailer + 6] = 1), 7, 1);
-        both_refuse(&changed(|file| file[5] = 6), 7, 0);
-        both_refuse(&changed(|file| file[trailer - 1] = 2), 7, 2);
-
-        let many = |count| plain::write_file(1, &cascade("D x0").repeat(count), b"note");
-        assert_eq!(read_file(&many(8_000), 64_000, 4).map(|(found, ..)| found.gates), Ok(8_000));
-        both_refuse(&many(8_001), 6, 0);
-        both_refuse(&many(65_535), 6, 0);
-        both_refuse(&plain::write_file(1, &[0; 64_008], b"note"), 6, 0);
-    }
-
-    #[test]
-    fn five_the_records_room_first() {
-        let file = file();
-        for records_room in [0, 8, 16, 23] {
-            for note_room in [0, 4, 5, 100] {
-                assert_eq!(read_file(&file, records_room, note_room), refused(5, 3));
-            }
-        }
-        for records_room in [24, 25, 31, 32, 100] {
-            for note_room in [0, 1, 4] {
-                assert_eq!(read_file(&file, records_room, note_room), refused(5, 5));
-            }
-            for note_room in [5, 6, 100] {
-                assert!(read_file(&file, records_room, note_room).is_ok());
-            }
-        }
-        // Nothing to copy needs no room.
-        assert!(read_file(&plain::write_file(4, &[], b""), 0, 0).is_ok());
-        assert_eq!(read_file(&plain::write_file(4, &[], b"n"), 0, 0), refused(5, 1));
-        assert_eq!(read_file(&plain::write_file(4, &cascade("D x3"), b""), 7, 0), refused(5, 1));
     }
 }

@@ -1,16 +1,17 @@
 //! From table to cascade, and what the demands ask of it.
 
+use drawing::Numbers;
 use second::gate::Operator;
 use second::pattern::Lines;
 use second::table::{check_table, Permutation};
 
 use crate::calls::{computed, invert, synthesize, synthesized};
-use crate::helpers::{identity, Numbers, BOUND};
+use crate::helpers::{identity, BOUND};
 use crate::plain;
 
 #[test]
 fn the_plain_procedure_finds_the_same_gates() {
-    let mut numbers = Numbers(8);
+    let mut numbers = Numbers::from_seed(8);
     for lines in 1..=6 {
         for _ in 0..[0, 20, 200, 200, 50, 10, 2][lines] {
             let table = numbers.table(lines);
@@ -22,7 +23,7 @@ fn the_plain_procedure_finds_the_same_gates() {
 
 #[test]
 fn cascades_compute_their_tables_both_ways() {
-    let mut numbers = Numbers(9);
+    let mut numbers = Numbers::from_seed(9);
     for round in 0..600 {
         let lines = 1 + round % 6;
         let n = lines as u8;
@@ -71,7 +72,7 @@ fn a_table_is_accepted_exactly_if_it_is_a_permutation() {
         }
     }
     // Random tables with a few bad entries.
-    let mut numbers = Numbers(10);
+    let mut numbers = Numbers::from_seed(10);
     for round in 0..20_000 {
         let lines = 1 + round % 5;
         let mut table = numbers.table(lines);
@@ -141,9 +142,8 @@ fn the_bound_is_the_formula() {
 }
 
 #[test]
-fn a_six_line_table_is_quick() {
-    // The plain procedure takes many milliseconds for one.
-    let mut numbers = Numbers(11);
+fn six_line_tables_come_back() {
+    let mut numbers = Numbers::from_seed(11);
     for _ in 0..200 {
         let table = numbers.table(6);
         assert_eq!(computed(6, &synthesized(6, &table)), table);

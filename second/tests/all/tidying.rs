@@ -1,11 +1,12 @@
 //! Tidying against the plain procedure, and what the demands ask of it.
-//! (That the two agree after every single step is tested beside the code.)
+//! (That the two agree after every single step is tested in `steps`.)
 
+use drawing::Numbers;
 use second::cascade::price;
+use second::cases::gates;
 use second::tidying::Tidied;
 
 use crate::calls::{computed, synthesized, tidy};
-use crate::helpers::{cascade, Numbers};
 use crate::plain;
 
 /// Tidies and compares with the plain procedure.
@@ -36,7 +37,7 @@ fn keeps_the_demands(lines: usize, records: &[u8], left: &[u8], steps: usize) {
 
 #[test]
 fn random_cascades() {
-    let mut numbers = Numbers(12);
+    let mut numbers = Numbers::from_seed(12);
     let mut steps = 0;
     for round in 0..20_000 {
         let lines = 1 + round % 6;
@@ -50,12 +51,12 @@ fn random_cascades() {
 
 #[test]
 fn dense_cascades_on_few_lines() {
-    let mut numbers = Numbers(13);
+    let mut numbers = Numbers::from_seed(13);
     let mut steps = 0;
     for round in 0..12_000 {
         let lines = 1 + round % 3;
         let (count, kinds) = (numbers.below(60), 1 + numbers.below(12));
-        let records = numbers.dense_cascade(lines, count, kinds);
+        let records = numbers.dense_cascade(lines, count, kinds, 60);
         steps += tidied(lines, &records).steps;
     }
     assert!(steps > 100_000, "{steps} steps");
@@ -63,66 +64,49 @@ fn dense_cascades_on_few_lines() {
 
 #[test]
 fn dense_cascades_on_more_lines() {
-    let mut numbers = Numbers(14);
+    let mut numbers = Numbers::from_seed(14);
     for round in 0..3_000 {
         let lines = 4 + round % 3;
         let (count, kinds) = (numbers.below(80), 1 + numbers.below(20));
-        let records = numbers.dense_cascade(lines, count, kinds);
+        let records = numbers.dense_cascade(lines, count, kinds, 60);
         tidied(lines, &records);
     }
 }
 
 #[test]
 fn long_dense_cascades() {
-    let mut numbers = Numbers(15);
+    let mut numbers = Numbers::from_seed(15);
     for round in 0..60 {
         let lines = 1 + round % 6;
         let kinds = [2, 3, 5, 9, 40][round / 6 % 5];
-        let records = numbers.dense_cascade(lines, 300, kinds);
+        let records = numbers.dense_cascade(lines, 300, kinds, 60);
         tidied(lines, &records);
     }
 }
 
-/// One target, one operator or its inverse, and controls on a few lines: every
-/// pair is open, and long chains of reductions follow.
+/// Every pair is open, and long chains of reductions follow.
 #[test]
 fn cascades_where_all_may_change_places() {
-    let mut numbers = Numbers(16);
+    let mut numbers = Numbers::from_seed(16);
     for round in 0..1_500 {
-        let lines = 2 + round % 4;
-        let operator = 1 + numbers.below(5) as u8;
         let count = numbers.below(70);
-        let records: Vec<u8> = (0..count)
-            .flat_map(|_| {
-                let mut gate = numbers.gate(lines, 80);
-                let target = gate[1] as usize;
-                gate.swap(2, 2 + target);
-                gate[0] = if operator <= 2 { 1 + numbers.below(2) as u8 } else { operator };
-                gate[1] = 0;
-                gate
-            })
-            .collect();
-        tidied(lines, &records);
+        tidied(2 + round % 4, &numbers.passing_cascade(2 + round % 4, count, 80));
     }
 }
 
-/// A cascade and its inverse meet in the middle, and cancel outward from there.
 #[test]
 fn cascades_followed_by_their_inverse() {
-    let mut numbers = Numbers(17);
+    let mut numbers = Numbers::from_seed(17);
     for round in 0..600 {
         let lines = 1 + round % 6;
-        let count = numbers.below(40);
-        let records = numbers.cascade(lines, count, 50);
-        let mut gates = plain::gates(lines, &records);
-        gates.extend(gates.clone().iter().rev().map(plain::inverse));
-        tidied(lines, &plain::bytes(&gates));
+        let half = numbers.below(40);
+        tidied(lines, &numbers.there_and_back(lines, half, 50));
     }
 }
 
 #[test]
 fn synthesized_cascades() {
-    let mut numbers = Numbers(18);
+    let mut numbers = Numbers::from_seed(18);
     for lines in 1..=6 {
         for _ in 0..[0, 6, 100, 100, 20, 4, 1][lines] {
             let table = numbers.table(lines);
@@ -134,10 +118,10 @@ fn synthesized_cascades() {
 
 #[test]
 fn nothing_open_fits_at_the_end() {
-    let mut numbers = Numbers(19);
+    let mut numbers = Numbers::from_seed(19);
     for round in 0..1_000 {
         let lines = 1 + round % 6;
-        let records = numbers.dense_cascade(lines, 40, 6);
+        let records = numbers.dense_cascade(lines, 40, 6, 60);
         let (_, left) = tidy(lines as u8, &records).unwrap();
         assert!(!plain::has_fitting_open_pair(&plain::gates(lines, &left)));
         let again = Tidied { gates: left.len() / 8, steps: 0 };
@@ -148,7 +132,7 @@ fn nothing_open_fits_at_the_end() {
 #[test]
 fn at_most_one_rule_fits_a_pair() {
     // All pairs of gates on three lines.
-    let gates = all_gates_on_three_lines();
+    let gates = plain::all_gates(3);
     for i in &gates {
         for j in &gates {
             let rules = [plain::cancels(i, j), plain::merges(i, j), plain::reduces(i, j).is_some()];
@@ -164,7 +148,7 @@ fn at_most_one_rule_fits_a_pair() {
 
 #[test]
 fn gates_that_may_change_places_commute() {
-    let gates = all_gates_on_three_lines();
+    let gates = plain::all_gates(3);
     for one in &gates {
         for other in &gates {
             let may = plain::may_change_places(one, other);
@@ -180,44 +164,27 @@ fn gates_that_may_change_places_commute() {
     }
 }
 
-fn all_gates_on_three_lines() -> Vec<plain::Gate> {
-    let mut gates = Vec::new();
-    for op in plain::OPS {
-        for target in 0..3 {
-            for code in 0..16 {
-                let mut controls = [None; 6];
-                for (k, line) in (0..3).filter(|&line| line != target).enumerate() {
-                    let value = code >> (2 * k) & 3;
-                    controls[line] = (value < 3).then_some(value);
-                }
-                gates.push(plain::Gate { op, target, controls });
-            }
-        }
-    }
-    gates
-}
-
 /// What the sentences on openness leave room to misread.
 #[test]
 fn openness_is_about_gate_i_alone() {
-    let left = |gates: &str| {
-        let (answer, left) = tidy(3, &cascade(gates)).unwrap();
-        assert_eq!(plain::tidy(&mut plain::gates(3, &cascade(gates))), answer.steps);
+    let left = |text: &str| {
+        let (answer, left) = tidy(3, &gates(text)).unwrap();
+        assert_eq!(plain::tidy(&mut plain::gates(3, &gates(text))), answer.steps);
         (answer.steps, left)
     };
     // Gate i passes the gate between, and so would gate j.
-    assert_eq!(left("D x0, D x1 x0=0, D x0"), (1, cascade("D x1 x0=0")));
+    assert_eq!(left("D x0, D x1 x0=0, D x0"), (1, gates("D x1 x0=0")));
     // D moves 1: neither passes.
     assert_eq!(left("D x0, D x1 x0=1, D x0").0, 0);
     // The target of the gate between is a control of gate i.
-    assert_eq!(left("D x0 x1=1, N x1, D x0 x1=1"), (1, cascade("N x1")));
+    assert_eq!(left("D x0 x1=1, N x1, D x0 x1=1"), (1, gates("N x1")));
     assert_eq!(left("D x0 x1=2, N x1, D x0 x1=2").0, 0);
     // Control reduction across a gate that i passes and j does not: E passes a
     // control of value 2 only, and gate i has it.
-    assert_eq!(left("D x0 x1=2, E x1, D x0 x1=0"), (1, cascade("D x0, E x1, D x0 x1=1")),);
+    assert_eq!(left("D x0 x1=2, E x1, D x0 x1=0"), (1, gates("D x0, E x1, D x0 x1=1")),);
     assert_eq!(left("D x0 x1=0, E x1, D x0 x1=2").0, 0);
     // Same target, one type, any controls: they pass each other.
-    assert_eq!(left("C1 x0 x1=0, C2 x0 x2=2, C2 x0 x1=0"), (1, cascade("C2 x0 x2=2")));
+    assert_eq!(left("C1 x0 x1=0, C2 x0 x2=2, C2 x0 x1=0"), (1, gates("C2 x0 x2=2")));
     // Gates that exclude each other by a control value still may not pass.
     assert_eq!(left("D x0 x2=0, N x0 x2=1, D x0 x2=0").0, 0);
 }
@@ -225,11 +192,11 @@ fn openness_is_about_gate_i_alone() {
 #[test]
 fn steps_start_again_from_row_0() {
     // Rows 1 and 2 cancel first; only then is row 0 free to merge.
-    let given = cascade("C1 x0, D x0, D x0, C1 x0");
-    assert_eq!(tidy(1, &given), Ok((Tidied { gates: 1, steps: 2 }, cascade("C2 x0"))));
+    let given = gates("C1 x0, D x0, D x0, C1 x0");
+    assert_eq!(tidy(1, &given), Ok((Tidied { gates: 1, steps: 2 }, gates("C2 x0"))));
     // The smallest i, then the smallest j: gate 0 meets gate 1, not gate 2.
-    let given = cascade("D x0 x1=0, D x0 x1=1, D x0 x1=0");
-    let left = cascade("D x0, D x0 x1=2, D x0 x1=0");
+    let given = gates("D x0 x1=0, D x0 x1=1, D x0 x1=0");
+    let left = gates("D x0, D x0 x1=2, D x0 x1=0");
     let mut gates = plain::gates(2, &given);
     assert!(plain::step(&mut gates));
     assert_eq!(plain::bytes(&gates), left);
@@ -238,10 +205,10 @@ fn steps_start_again_from_row_0() {
 
 #[test]
 fn a_tidied_buffer_is_cut_by_the_caller() {
-    let mut records = cascade("E x0, D x0, D x0, N x0");
+    let mut records = gates("E x0, D x0, D x0, N x0");
     let answer = second::tidying::tidy(1, &mut records).unwrap();
     assert_eq!(answer, Tidied { gates: 2, steps: 1 });
-    assert_eq!(records, [cascade("E x0, N x0"), vec![0; 16]].concat());
+    assert_eq!(records, [gates("E x0, N x0"), vec![0; 16]].concat());
     // The zero records are no gates.
     let whole = second::cascade::check(1, &records).unwrap_err();
     assert_eq!((whole.number, whole.place), (7, 2));
@@ -249,7 +216,7 @@ fn a_tidied_buffer_is_cut_by_the_caller() {
 }
 
 /// Cascades of the kinds that a search without memory takes minutes for when they
-/// are long. The short ones are compared; the long ones have to be over at once.
+/// are long. The short ones are compared; of the long ones the demands are asked.
 #[test]
 fn worst_cascades() {
     for length in [150, 8_000] {
@@ -267,7 +234,7 @@ fn worst_cascades() {
 }
 
 fn worst(length: usize) -> Vec<(usize, Vec<u8>)> {
-    let mut numbers = Numbers(20);
+    let mut numbers = Numbers::from_seed(20);
     let mut all = Vec::new();
 
     // Rows that pass everything and fit nothing, and fitting pairs behind them:
@@ -290,10 +257,10 @@ fn worst(length: usize) -> Vec<(usize, Vec<u8>)> {
 
     // Few gates over and over, most of them blocked by the next.
     for kinds in [2, 3, 6] {
-        all.push((1, numbers.dense_cascade(1, length, kinds)));
-        all.push((3, numbers.dense_cascade(3, length, kinds)));
+        all.push((1, numbers.dense_cascade(1, length, kinds, 60)));
+        all.push((3, numbers.dense_cascade(3, length, kinds, 60)));
     }
-    let row = cascade("E x0, D x0").repeat(length / 4);
+    let row = gates("E x0, D x0").repeat(length / 4);
     all.push((1, [row.clone(), mirrored(1, &row)].concat()));
     all
 }

@@ -4,12 +4,12 @@
 use std::collections::HashSet;
 
 use second::calls::{Call, Given, Told};
-use second::cases::cases;
+use second::cases::{cases, gates};
 use second::draws::Draws;
 use second::vectors::{lines, read_cases, write_cases, Case, Digest};
 
 use crate::calls::synthesized;
-use crate::helpers::{cascade, BOUND};
+use crate::helpers::BOUND;
 use crate::plain;
 
 /// The numbers of a line: the call's, then the answer's five.
@@ -67,8 +67,11 @@ fn a_case_byte_for_byte() {
     assert_eq!(read_cases(&bytes), Some(vec![case.clone()]));
     assert_eq!(case.bytes(), [&case.record.repeat(3)[..], &[7, 8]].concat());
     assert_eq!(case.more_bytes(), [&case.record.repeat(4)[..], &[9]].concat());
+    assert_no_other_file_reads(bytes);
+}
 
-    // Cut or too long, it is no file of cases.
+/// Cut, too long, or with a number too large for its place.
+fn assert_no_other_file_reads(bytes: [u8; 75]) {
     for length in 0..bytes.len() {
         assert_eq!(read_cases(&bytes[..length]), None);
     }
@@ -118,7 +121,7 @@ fn a_line_tells_the_answer_and_what_lent_memory_holds() {
         fill: 0xaa,
         ..Case::new(Call::Synthesize)
     };
-    let room = [cascade("D x0, E x0"), vec![0xaa]].concat();
+    let room = [gates("D x0, E x0"), vec![0xaa]].concat();
     let nothing = Digest::START;
     let given = Digest::of(&case.stored);
     assert_eq!(
@@ -132,17 +135,21 @@ fn a_line_tells_the_answer_and_what_lent_memory_holds() {
     assert_eq!(refused.line(), format!("2 5 2 0 0 0 {given} {nothing} {room} {nothing}\n"));
 
     // Tidying changes the bytes given.
-    let tidied = Case { lines: 1, stored: cascade("C1 x0, C1 x0"), ..Case::new(Call::Tidy) };
-    let left = Digest::of(&[cascade("C2 x0"), vec![0; 8]].concat());
+    let tidied = Case { lines: 1, stored: gates("C1 x0, C1 x0"), ..Case::new(Call::Tidy) };
+    let left = Digest::of(&[gates("C2 x0"), vec![0; 8]].concat());
     assert_eq!(tidied.line(), format!("8 0 0 1 1 0 {left} {nothing} {nothing} {nothing}\n"));
+}
 
+#[test]
+fn a_line_tells_entries_the_chosen_one_and_gates() {
+    let nothing = Digest::START;
     // The room of entries.
     let table = Case { lines: 1, room: 4, fill: 1, ..Case::new(Call::Tabulate) };
     let room = Digest::of(&[0, 0, 1, 0, 2, 0, 1, 1]);
     assert_eq!(table.line(), format!("5 0 0 3 0 0 {nothing} {nothing} {room} {nothing}\n"));
 
     // What is handed back of two.
-    let (first, second) = (cascade("N x0, N x0, D x0"), cascade("D x0"));
+    let (first, second) = (gates("N x0, N x0, D x0"), gates("D x0"));
     let choice = Case {
         lines: 1,
         stored: first.clone(),
@@ -155,7 +162,7 @@ fn a_line_tells_the_answer_and_what_lent_memory_holds() {
     assert_eq!(refused.line(), format!("9 10 0 0 0 0 {one} {other} {nothing} {nothing}\n"));
 
     // A gate: D x0 x1=2 is operator 4, target 0, controls 3 2 3 3 3 3.
-    let reader = Case { lines: 2, stored: cascade("D x0 x1=2"), end: 8, ..Case::new(Call::Next) };
+    let reader = Case { lines: 2, stored: gates("D x0 x1=2"), end: 8, ..Case::new(Call::Next) };
     let controls = 3 + 4 * (2 + 4 * (3 + 4 * (3 + 4 * (3 + 4 * 3))));
     assert_eq!(numbers(&reader), [13, 0, 0, 1, 8, 4 + 65_536 * controls]);
     assert_eq!(numbers(&Case { place: 1, ..reader }), [13, 0, 0, 0, 1, 0]);

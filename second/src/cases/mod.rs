@@ -1,0 +1,46 @@
+//! The cases that every other program has to answer alike: each refusal of each
+//! call from both sides of its edge, the order of refusals, the documents'
+//! examples and printed tables, damaged and cut files, made-up readers, and some
+//! drawn tables and cascades. A part stands for each family of calls.
+
+mod cascades;
+mod choices;
+mod files;
+mod making;
+mod published;
+mod tables;
+mod texts;
+mod tidying;
+
+pub use cascades::{RIGHT_RECORD, WRONG_RECORDS};
+pub use making::gates;
+
+use crate::vectors::Case;
+
+/// The cases, always the same and in the same order.
+pub fn cases() -> Vec<Case> {
+    let parts: [fn() -> Vec<Case>; 17] = [
+        tables::tables,
+        tables::rooms_for_synthesis,
+        cascades::lines_of_cascades,
+        cascades::lengths_of_cascades,
+        cascades::records,
+        cascades::patterns,
+        cascades::rooms_for_cascades,
+        cascades::values,
+        tidying::tidying,
+        choices::choices,
+        published::published,
+        files::written_files,
+        files::frames,
+        files::rooms_for_files,
+        files::readers,
+        texts::listings,
+        texts::sheets,
+    ];
+    let mut cases: Vec<_> = parts.into_iter().flat_map(|part| part()).collect();
+    for (place, case) in cases.iter_mut().enumerate() {
+        case.fill = (7 * place + 129) as u8;
+    }
+    cases
+}
