@@ -4,15 +4,15 @@ use std::cell::Cell;
 use std::hint::black_box;
 use std::time::Duration;
 
+use compare::proved::Library;
 use second::answer::Answer;
 use second::calls::Told;
 use second::file::Opening;
 use second::gate::{Gate, RECORD};
-use second::{cascade, choice, file, listing, sheet, synthesis, table, tidying};
+use second::{cascade, choice, file, listing, sheet, synthesis, table, tabulating, tidying};
 
 use crate::clock::{race, race_changing, Times};
 use crate::inputs::{bound, file_of, patterns, table_file};
-use crate::proved::Library;
 
 const LIBRARY: Library = Library { null_if_empty: false };
 
@@ -93,7 +93,7 @@ impl Timer {
             self.patience,
             vec![0; patterns(lines)],
             |room| proved(LIBRARY.tabulate(lines, cascade, room)),
-            |room| second(cascade::tabulate(lines, cascade, room)) as u64,
+            |room| second(tabulating::tabulate(lines, cascade, room)) as u64,
         )
     }
 

@@ -122,8 +122,8 @@ pub fn alike(lines: u8, gates: usize) -> [Vec<u8>; 2] {
 #[cfg(test)]
 mod tests {
     use super::*;
-    use second::hard::hardest;
     use second::choice::choose;
+    use second::hard::hardest;
 
     #[test]
     fn the_hardest_table_reaches_the_bound() {

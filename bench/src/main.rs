@@ -19,19 +19,11 @@ mod clock;
 mod families;
 mod growth;
 mod inputs;
-// These two are compare's: numbers from a seed, and the library's C functions.
-#[allow(dead_code)]
-#[path = "../../compare/src/numbers.rs"]
-mod numbers;
 mod program;
-#[allow(dead_code)]
-#[path = "../../compare/src/proved.rs"]
-mod proved;
 mod report;
 mod rows;
 mod worst;
 
-use std::path::Path;
 use std::process::ExitCode;
 use std::time::Duration;
 
@@ -67,7 +59,7 @@ fn print_all() {
     println!("entries of a table, gates of a cascade, or tables.\n");
     print_rows("");
     growth::print(&Timer { patience: Duration::from_millis(120) });
-    program::print(&Path::new(env!("CARGO_MANIFEST_DIR")).join(".."));
+    program::print();
 }
 
 fn print_rows(word: &str) {

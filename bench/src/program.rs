@@ -1,9 +1,8 @@
 //! The program `tiles`, from start to end of the process.
 
-use std::env;
 use std::fs::{self, File};
 use std::io;
-use std::path::{Path, PathBuf};
+use std::path::Path;
 use std::process::{Command, Stdio};
 use std::time::Instant;
 
@@ -20,19 +19,13 @@ const AIM: f64 = 0.003;
 
 /// Times the program on the six-line door counter, from standard input to standard
 /// output, beside a process that does nothing.
-pub fn print(root: &Path) {
+pub fn print() {
     println!();
-    let program = match env::var_os("TILES_PROGRAM") {
-        Some(named) => PathBuf::from(named),
-        None if cfg!(target_arch = "x86_64") => root.join("target/bin/tiles"),
-        None => {
-            println!(
-                "the program tiles isn't timed: it is built for x86-64, which this machine isn't"
-            );
-            return;
-        }
+    let Some(program) = compare::program::find() else {
+        println!("tiles isn't timed: it is built for x86-64, which this machine isn't");
+        return;
     };
-    let table = root.join("examples/door6.table");
+    let table = Path::new(env!("CARGO_MANIFEST_DIR")).join("../examples/door6.table");
     match start_in_turn(&program, &table) {
         Ok([tiles, nothing]) => {
             let more = tiles.median - nothing.median;

@@ -1,9 +1,9 @@
 //! What is timed on what.
 
-use second::hard::hardest;
 use second::draws::Draws;
 use second::file::LONGEST_NOTE;
 use second::gate::RECORD;
+use second::hard::hardest;
 
 use crate::families::hard;
 use crate::inputs::{

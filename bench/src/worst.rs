@@ -6,11 +6,11 @@
 
 use std::time::{Duration, Instant};
 
+use drawing::Numbers;
 use second::gate::Operator;
 
 use crate::calls::tidy;
 use crate::families::{hard, standing_rows, Part, Recipe};
-use crate::numbers::Numbers;
 use crate::report::duration;
 
 /// How many recipes are kept.

@@ -2,10 +2,10 @@
 
 use std::fmt;
 
+use compare::proved::Library;
 use second::calls::{Given, Told};
 
 use crate::inputs::Input;
-use crate::proved::Library;
 
 /// Bytes or entries that stand before and behind what is lent, and must stay.
 const GUARD: usize = 16;

@@ -6,7 +6,8 @@
 //! if not said) from a seed (1). It calls both with each, and compares the
 //! answer's number, place and values and every lent byte, with the bytes around
 //! what is lent. It prints how many inputs each call had and what became of them,
-//! then `no difference`; or the first difference, and ends with status 1. Input k
+//! what the program `tiles` prints beside the second program, then `no difference`;
+//! or the first difference, and ends with status 1. Input k
 //! of a seed is always the same, and FIRST says with which to begin: `compare 1
 //! SEED K` makes input K alone, after the cases.
 
@@ -14,17 +15,16 @@
 
 mod both;
 mod inputs;
-mod numbers;
-mod proved;
+mod sheets;
 
 use std::process::ExitCode;
 use std::time::Instant;
 
+use drawing::Numbers;
 use second::calls::Call;
 use second::cases::cases;
 
 use inputs::Input;
-use numbers::Numbers;
 
 fn main() -> ExitCode {
     let mut arguments = [1_000_000u64, 1, 0];
@@ -42,15 +42,29 @@ fn main() -> ExitCode {
     let [count, seed, first] = arguments;
 
     let start = Instant::now();
+    match compare_all(count, seed, first) {
+        Ok(cases) => {
+            let seconds = start.elapsed().as_secs_f64();
+            println!("no difference: {cases} cases, {count} inputs of seed {seed}, {seconds:.1} s");
+            ExitCode::SUCCESS
+        }
+        Err(difference) => {
+            println!("{difference}");
+            ExitCode::FAILURE
+        }
+    }
+}
+
+/// Compares on the listed cases, then on inputs of a seed, then the programs. Tells
+/// how many cases were listed, or the first difference in words.
+fn compare_all(count: u64, seed: u64, first: u64) -> Result<usize, String> {
     let mut tally = Tally::default();
     let listed = cases();
     for (number, case) in listed.iter().enumerate() {
         let input = Input::of_case(case, &mut Numbers::of(seed, number as u64));
-        if let Err(difference) = tally.compare(&input) {
-            println!("difference at listed case {number}, in {}", described(&input));
-            println!("{difference}");
-            return ExitCode::FAILURE;
-        }
+        tally.compare(&input).map_err(|difference| {
+            format!("difference at listed case {number}, in {}\n{difference}", described(&input))
+        })?;
     }
     for done in 0..count {
         // If a call never comes back, this says where to look.
@@ -59,17 +73,17 @@ fn main() -> ExitCode {
         }
         let number = first.wrapping_add(done);
         let input = Input::make(&mut Numbers::of(seed, number));
-        if let Err(difference) = tally.compare(&input) {
-            println!("difference at input {number} of seed {seed}, in {}", described(&input));
-            println!("{difference}");
-            println!("again: compare 1 {seed} {number}");
-            return ExitCode::FAILURE;
-        }
+        tally.compare(&input).map_err(|difference| {
+            let described = described(&input);
+            format!(
+                "difference at input {number} of seed {seed}, in {described}\n{difference}\n\
+                 again: compare 1 {seed} {number}"
+            )
+        })?;
     }
     tally.print();
-    let (cases, seconds) = (listed.len(), start.elapsed().as_secs_f64());
-    println!("no difference: {cases} cases, {count} inputs of seed {seed}, {seconds:.1} s");
-    ExitCode::SUCCESS
+    println!("{}", sheets::compare(seed)?);
+    Ok(listed.len())
 }
 
 fn usage() -> ExitCode {
@@ -81,8 +95,8 @@ fn usage() -> ExitCode {
 #[derive(Default)]
 struct Tally {
     counts: [[u64; 12]; Call::ALL.len()],
-    /// Inputs with 8,000 gates or more.
-    long: u64,
+    /// Inputs with 121 to 7,999 gates, and with 8,000 or more.
+    long: [u64; 2],
 }
 
 impl Tally {
@@ -90,7 +104,9 @@ impl Tally {
     fn compare(&mut self, input: &Input) -> Result<(), String> {
         let answer = both::compare(input)?;
         self.counts[input.call.number() as usize - 1][answer.number.min(11) as usize] += 1;
-        self.long += (input.bytes.len().max(input.more_bytes.len()) >= 64_000) as u64;
+        let gates = input.bytes.len().max(input.more_bytes.len()) / 8;
+        self.long[0] += (121..8_000).contains(&gates) as u64;
+        self.long[1] += (gates >= 8_000) as u64;
         Ok(())
     }
 
@@ -114,7 +130,8 @@ impl Tally {
             }
             println!();
         }
-        println!("inputs with 8,000 gates or more: {}", self.long);
+        let [long, longest] = self.long;
+        println!("inputs with 121 to 7,999 gates: {long}; with 8,000 or more: {longest}");
         match missing.as_slice() {
             [] => println!("every refusal of every call was met"),
             missing => println!("not met: {}", missing.join(", ")),
