@@ -1,6 +1,5 @@
 //! Every call, timed on both sides.
 
-use std::cell::Cell;
 use std::hint::black_box;
 use std::time::Duration;
 
@@ -11,7 +10,7 @@ use second::file::Opening;
 use second::gate::{Gate, RECORD};
 use second::{cascade, choice, file, listing, sheet, synthesis, table, tabulating, tidying};
 
-use crate::clock::{race, race_changing, Times};
+use crate::clock::{race, race_changing, race_in_turn, Times};
 use crate::inputs::{bound, file_of, patterns, table_file};
 
 const LIBRARY: Library = Library { null_if_empty: false };
@@ -30,13 +29,13 @@ pub struct Timer {
 impl Timer {
     /// The tables take turns.
     pub fn check_table(&self, lines: u8, tables: &[Vec<u16>]) -> [Times; 2] {
-        let (ours, theirs) = (Turns::of(tables), Turns::of(tables));
-        race(
+        race_in_turn(
             self.patience,
+            tables,
             (),
-            |_| proved(LIBRARY.check_table(lines, ours.next())),
-            |_| {
-                second(table::check_table(lines, theirs.next()));
+            |table, _| proved(LIBRARY.check_table(lines, table)),
+            |table, _| {
+                second(table::check_table(lines, table));
                 0
             },
         )
@@ -44,21 +43,29 @@ impl Timer {
 
     /// The tables take turns.
     pub fn synthesize(&self, lines: u8, tables: &[Vec<u16>]) -> [Times; 2] {
-        let (ours, theirs) = (Turns::of(tables), Turns::of(tables));
-        race(
+        race_in_turn(
             self.patience,
+            tables,
             vec![0; RECORD * bound(lines)],
-            |room| proved(LIBRARY.synthesize(lines, ours.next(), room)),
-            |room| second(synthesis::synthesize(lines, theirs.next(), room)) as u64,
+            |table, room| proved(LIBRARY.synthesize(lines, table, room)),
+            |table, room| second(synthesis::synthesize(lines, table, room)) as u64,
         )
     }
 
-    /// All tables, which stand one behind the other, in one go.
+    /// All tables, which stand one behind the other, in one go. The room is for one
+    /// cascade, so each is compared by itself before.
     pub fn synthesize_all(&self, lines: u8, tables: &[u16]) -> [Times; 2] {
+        let room = vec![0; RECORD * bound(lines)];
+        let (mut ours, mut theirs) = (room.clone(), room.clone());
         let tables = || tables.chunks(patterns(lines));
+        for table in tables() {
+            let gates = proved(LIBRARY.synthesize(lines, table, &mut ours));
+            assert_eq!(gates, second(synthesis::synthesize(lines, table, &mut theirs)) as u64);
+            assert!(ours == theirs, "the two differ");
+        }
         race(
             self.patience,
-            vec![0; RECORD * bound(lines)],
+            room,
             |room| tables().map(|table| proved(LIBRARY.synthesize(lines, table, room))).sum(),
             |room| {
                 let gates = tables().map(|table| second(synthesis::synthesize(lines, table, room)));
@@ -79,12 +86,12 @@ impl Timer {
     /// On one pattern a call; all take turns.
     pub fn run(&self, lines: u8, cascade: &[u8]) -> [Times; 2] {
         let all: Vec<u16> = (0..patterns(lines) as u16).collect();
-        let (ours, theirs) = (Turns::of(&all), Turns::of(&all));
-        race(
+        race_in_turn(
             self.patience,
+            &all,
             (),
-            |_| proved(LIBRARY.run(lines, cascade, *ours.next())),
-            |_| second(cascade::run(lines, cascade, *theirs.next())) as u64,
+            |&pattern, _| proved(LIBRARY.run(lines, cascade, pattern)),
+            |&pattern, _| second(cascade::run(lines, cascade, pattern)) as u64,
         )
     }
 
@@ -139,11 +146,11 @@ impl Timer {
             (vec![0; file.len()], vec![0; file.len()]),
             |(records, note)| {
                 let told = LIBRARY.read_file(file, records, note);
-                proved(told) + told.second + told.third
+                proved(told) + (told.second << 8) + (told.third << 32)
             },
             |(records, note)| {
                 let found = second(file::read_file(file, records, note));
-                found.lines as u64 + found.gates as u64 + found.note as u64
+                found.lines as u64 + ((found.gates as u64) << 8) + ((found.note as u64) << 32)
             },
         )
     }
@@ -152,8 +159,14 @@ impl Timer {
         race(
             self.patience,
             (),
-            |_| proved(LIBRARY.opening(file)),
-            |_| second(file::opening(file)).lines as u64,
+            |_| {
+                let told = LIBRARY.opening(file);
+                proved(told) + (told.second << 8) + (told.third << 32)
+            },
+            |_| {
+                let Opening { lines, place, end } = second(file::opening(file));
+                lines as u64 + ((place as u64) << 8) + ((end as u64) << 32)
+            },
         )
     }
 
@@ -242,22 +255,4 @@ fn proved(told: Told) -> u64 {
 
 fn second<T>(answer: Answer<T>) -> T {
     answer.unwrap_or_else(|refusal| panic!("refused: {refusal:?}"))
-}
-
-/// Things that take turns, so that no call can know by heart what comes.
-struct Turns<'a, T> {
-    things: &'a [T],
-    next: Cell<usize>,
-}
-
-impl<'a, T> Turns<'a, T> {
-    fn of(things: &'a [T]) -> Turns<'a, T> {
-        Turns { things, next: Cell::new(0) }
-    }
-
-    fn next(&self) -> &'a T {
-        let place = self.next.get();
-        self.next.set((place + 1) % self.things.len());
-        &self.things[place]
-    }
 }

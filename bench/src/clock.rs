@@ -29,6 +29,34 @@ pub fn race<R: Clone + PartialEq>(
     )
 }
 
+/// Times a call on things that take turns, so that no call can know by heart what
+/// comes. Both sides must answer and write the same for each of them.
+pub fn race_in_turn<T, R: Clone + PartialEq>(
+    patience: Duration,
+    things: &[T],
+    room: R,
+    proved: impl Fn(&T, &mut R) -> u64,
+    second: impl Fn(&T, &mut R) -> u64,
+) -> [Times; 2] {
+    for thing in things {
+        let (mut ours, mut theirs) = (room.clone(), room.clone());
+        let alike = proved(thing, &mut ours) == second(thing, &mut theirs) && ours == theirs;
+        assert!(alike, "the two differ");
+    }
+    let (mut ours, mut theirs) = (things.iter().cycle(), things.iter().cycle());
+    race_sides(
+        patience,
+        &mut Steady {
+            room: room.clone(),
+            call: |room: &mut R| ours.next().map_or(0, |thing| proved(thing, room)),
+        },
+        &mut Steady {
+            room,
+            call: |room: &mut R| theirs.next().map_or(0, |thing| second(thing, room)),
+        },
+    )
+}
+
 /// Times a call that changes the bytes it is given: each time it gets a new copy,
 /// made outside the clock. Both must answer the same and change the bytes alike.
 pub fn race_changing(

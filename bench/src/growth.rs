@@ -1,8 +1,9 @@
 //! How the time of a call grows with the gates and with the lines.
 
+use second::hard::hard;
+
 use crate::calls::Timer;
 use crate::clock::Times;
-use crate::families::hard;
 use crate::inputs::{drawn_cascade, drawn_tables, file_of, patterns, MOST_GATES};
 use crate::report::{duration, grouped};
 

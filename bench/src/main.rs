@@ -8,6 +8,12 @@
 //! lines; then how long the program `tiles` takes. With a WORD, only the lines of
 //! the first table that have it in their name.
 //!
+//!     bench runs COUNT
+//!
+//! prints the first table so many times, then for each line the median, the least and
+//! the largest of its ratios. If an aim is missed, by the median where there are
+//! several runs, the program ends with status 1.
+//!
 //!     bench worst SECONDS [SEED] [GATES]
 //!
 //! searches for cascades that take the proved library long to tidy.
@@ -16,7 +22,6 @@
 
 mod calls;
 mod clock;
-mod families;
 mod growth;
 mod inputs;
 mod program;
@@ -34,22 +39,32 @@ use report::Report;
 fn main() -> ExitCode {
     let arguments: Vec<String> = std::env::args().skip(1).collect();
     let words: Vec<&str> = arguments.iter().map(String::as_str).collect();
-    match words.as_slice() {
+    let met = match words.as_slice() {
         [] => print_all(),
         ["worst", numbers @ ..] => return search(numbers),
-        [word] => print_rows(word),
+        ["runs", count] => match count.parse() {
+            Ok(count) => print_rows("", count),
+            Err(_) => return usage(),
+        },
+        [word] => print_rows(word, 1),
         _ => return usage(),
+    };
+    if met {
+        ExitCode::SUCCESS
+    } else {
+        ExitCode::FAILURE
     }
-    ExitCode::SUCCESS
 }
 
 fn usage() -> ExitCode {
     eprintln!("use: bench [WORD]");
+    eprintln!("     bench runs COUNT");
     eprintln!("     bench worst SECONDS [SEED] [GATES]");
     ExitCode::from(2)
 }
 
-fn print_all() {
+/// Tells whether all aims are met.
+fn print_all() -> bool {
     println!(
         "Times of a call. Rooms are filled once and not cleared between calls; tidying, which"
     );
@@ -57,15 +72,19 @@ fn print_all() {
         "changes what it reads, gets a new copy for each call, outside the clock. The size is"
     );
     println!("entries of a table, gates of a cascade, or tables.\n");
-    print_rows("");
+    let met = print_rows("", 1);
     growth::print(&Timer { patience: Duration::from_millis(120) });
-    program::print();
+    program::print() && met
 }
 
-fn print_rows(word: &str) {
+/// Tells whether all aims are met.
+fn print_rows(word: &str, runs: usize) -> bool {
     let mut report = Report::new(word, Timer { patience: Duration::from_millis(800) });
-    rows::print(&mut report);
-    report.end();
+    for _ in 0..runs {
+        report.start_run();
+        rows::print(&mut report);
+    }
+    report.end()
 }
 
 fn search(arguments: &[&str]) -> ExitCode {

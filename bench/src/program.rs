@@ -18,12 +18,13 @@ const STARTS: usize = 300;
 const AIM: f64 = 0.003;
 
 /// Times the program on the six-line door counter, from standard input to standard
-/// output, beside a process that does nothing.
-pub fn print() {
+/// output, beside a process that does nothing. Tells whether the aim is met; where
+/// there is no program to be timed, nothing is missed.
+pub fn print() -> bool {
     println!();
     let Some(program) = compare::program::find() else {
         println!("tiles isn't timed: it is built for x86-64, which this machine isn't");
-        return;
+        return true;
     };
     let table = Path::new(env!("CARGO_MANIFEST_DIR")).join("../examples/door6.table");
     match start_in_turn(&program, &table) {
@@ -35,8 +36,12 @@ pub fn print() {
             }
             let missed = if more > AIM { ", missed *" } else { "" };
             println!("beyond process start: {}, aim {}{missed}", signed(more), duration(AIM));
+            more <= AIM
         }
-        Err(error) => println!("the program isn't timed: {}: {error}", program.display()),
+        Err(error) => {
+            println!("the program isn't timed: {}: {error}", program.display());
+            false
+        }
     }
 }
 

@@ -1,7 +1,7 @@
 //! The printed tables.
 
 use crate::calls::Timer;
-use crate::clock::Times;
+use crate::clock::{times, Times};
 
 /// A call on an input, and how many times the second program's time the proved
 /// side may take, where that has an aim.
@@ -14,22 +14,38 @@ pub struct What<'a> {
     pub aim: Option<f64>,
 }
 
-/// Prints a line for each comparison as it is made.
+/// Prints a line for each comparison as it is made, in one run or in several.
 pub struct Report {
     /// Only calls with this in their names are timed.
     only: String,
     timer: Timer,
-    lines: usize,
-    missed: usize,
+    lines: Vec<Line>,
+}
+
+/// What was timed, as it is printed, and its ratio in each run.
+struct Line {
+    what: String,
+    aim: Option<f64>,
+    ratios: Vec<f64>,
+}
+
+impl Line {
+    /// Is the median over all runs above the aim?
+    fn is_missed(&self) -> bool {
+        self.aim.is_some_and(|aim| times(self.ratios.clone()).median > aim)
+    }
 }
 
 impl Report {
     pub fn new(only: &str, timer: Timer) -> Report {
+        Report { only: only.to_string(), timer, lines: vec![] }
+    }
+
+    pub fn start_run(&self) {
         println!(
             "{:<46}{:>5}{:>8}{:>10}{:>10}{:>10}{:>10}{:>8}{:>6}",
             "call", "lines", "size", "proved", "least", "second", "least", "ratio", "aim"
         );
-        Report { only: only.to_string(), timer, lines: 0, missed: 0 }
     }
 
     pub fn line(&mut self, what: What, time: impl FnOnce(&Timer) -> [Times; 2]) {
@@ -40,24 +56,53 @@ impl Report {
         let [proved, second] = time(&self.timer);
         // What else the machine does only adds time, so the least times are compared.
         let ratio = proved.least / second.least;
-        let missed = aim.is_some_and(|aim| ratio > aim);
-        let aim = aim.map_or("-".to_string(), |aim| format!("{aim:.2}"));
-        self.lines += 1;
-        self.missed += missed as usize;
+        let what = format!("{call:<46}{lines:>5}{:>8}", grouped(size));
         println!(
-            "{call:<46}{lines:>5}{:>8}{:>10}{:>10}{:>10}{:>10}{ratio:>8.2}{aim:>6}{}",
-            grouped(size),
+            "{what}{:>10}{:>10}{:>10}{:>10}{ratio:>8.2}{:>6}{}",
             duration(proved.median),
             duration(proved.least),
             duration(second.median),
             duration(second.least),
-            if missed { " *" } else { "" }
+            aim.map_or("-".to_string(), |aim| format!("{aim:.2}")),
+            if aim.is_some_and(|aim| ratio > aim) { " *" } else { "" }
         );
+        match self.lines.iter_mut().find(|line| line.what == what) {
+            Some(line) => line.ratios.push(ratio),
+            None => self.lines.push(Line { what, aim, ratios: vec![ratio] }),
+        }
     }
 
-    pub fn end(self) {
-        let Report { lines, missed, .. } = self;
-        println!("* the aim is missed: {missed} of {lines} lines");
+    /// The ratios over all runs, if there were several. Tells whether all aims are
+    /// met by the medians.
+    pub fn end(self) -> bool {
+        let runs = self.lines.iter().map(|line| line.ratios.len()).max().unwrap_or(0);
+        if runs > 1 {
+            self.print_ratios(runs);
+        }
+        let missed = self.lines.iter().filter(|line| line.is_missed()).count();
+        println!("* the aim is missed: {missed} of {} lines", self.lines.len());
+        missed == 0
+    }
+
+    fn print_ratios(&self, runs: usize) {
+        println!(
+            "\n{:<59}{:>8}{:>8}{:>8}{:>6}",
+            format!("ratios of {runs} runs"),
+            "median",
+            "least",
+            "most",
+            "aim"
+        );
+        for line in &self.lines {
+            let Times { median, least } = times(line.ratios.clone());
+            let most = line.ratios.iter().fold(0.0, |most: f64, &ratio| most.max(ratio));
+            println!(
+                "{}{median:>8.2}{least:>8.2}{most:>8.2}{:>6}{}",
+                line.what,
+                line.aim.map_or("-".to_string(), |aim| format!("{aim:.2}")),
+                if line.is_missed() { " *" } else { "" }
+            );
+        }
     }
 }
 

@@ -3,9 +3,8 @@
 use second::draws::Draws;
 use second::file::LONGEST_NOTE;
 use second::gate::RECORD;
-use second::hard::hardest;
+use second::hard::{hard, hardest};
 
-use crate::families::hard;
 use crate::inputs::{
     alike, all_tables, bare_cascade, counter, drawn_cascade, drawn_tables, file_of, identity,
     patterns, synthesized, there_and_back, MOST_GATES,

@@ -8,9 +8,9 @@ use std::time::{Duration, Instant};
 
 use drawing::Numbers;
 use second::gate::Operator;
+use second::hard::{hard, standing_rows, Part, Recipe};
 
 use crate::calls::tidy;
-use crate::families::{hard, standing_rows, Part, Recipe};
 use crate::report::duration;
 
 /// How many recipes are kept.
@@ -72,8 +72,9 @@ fn change(recipe: &mut Recipe, numbers: &mut Numbers) {
     let place = numbers.below(parts.len());
     match numbers.below(20) {
         0 | 1 => recipe.idle = 500 * numbers.below(12),
-        2 => recipe.standing = numbers.below(standing_rows().len() + 1),
-        3 => recipe.standing = 0,
+        2 => recipe.standing = numbers.below(standing_rows(0).len() + 1),
+        3 => recipe.standing = numbers.pick(&[0, standing_rows(0).len()]),
+        9 | 10 => recipe.order = numbers.below(1_000) as u32,
         4 if parts.len() < 8 => parts.insert(place, some_part(numbers)),
         5 if parts.len() < 8 => parts.insert(place, parts[place]),
         6 if parts.len() > 1 => drop(parts.remove(place)),

@@ -20,14 +20,19 @@ impl Draws {
         (self.state >> 16) as usize % end
     }
 
-    /// A permutation: from the last entry down to entry 1, each changes places
-    /// with an entry drawn from those up to itself.
+    /// A permutation.
     pub fn table(&mut self, lines: usize) -> Vec<u16> {
         let mut table: Vec<u16> = (0..3u16.pow(lines as u32)).collect();
-        for last in (1..table.len()).rev() {
-            table.swap(last, self.below(last + 1));
-        }
+        self.shuffle(&mut table);
         table
+    }
+
+    /// From the last down to number 1, each changes places with one drawn from those
+    /// up to itself.
+    pub fn shuffle<T>(&mut self, things: &mut [T]) {
+        for last in (1..things.len()).rev() {
+            things.swap(last, self.below(last + 1));
+        }
     }
 
     /// A gate: the target, the operator, then from x0 up a control for each line

@@ -93,6 +93,38 @@ pub(super) fn records() -> Vec<Case> {
     cases
 }
 
+/// Refusal 7 wherever the bad record stands, and no refusal without one.
+pub(super) fn places_of_bad_records() -> Vec<Case> {
+    let mut cases = vec![];
+    for (times, rest) in with_one_bad_record() {
+        cases.extend(all_on_long_cascade(4, RIGHT_RECORD, times, &rest));
+    }
+    for times in [63, 64, 65, 1_000] {
+        cases.extend(all_on_long_cascade(4, RIGHT_RECORD, times, &[]));
+    }
+    cases
+}
+
+/// Cascades on four lines with a bad record that is not the first: how often
+/// [`RIGHT_RECORD`] stands before it, and it with what stands behind it.
+pub(super) fn with_one_bad_record() -> Vec<(usize, Vec<u8>)> {
+    let mut cascades = vec![];
+    for count in [63, 64, 65, 1_000, MOST_GATES] {
+        let middle = if count < MOST_GATES { count / 2 } else { MOST_GATES - 200 };
+        let mut places = [1, 62, 63, middle, count - 2, count - 1];
+        places.sort_unstable();
+        for (number, &place) in places.iter().enumerate() {
+            // What stands behind is stored, so in long ones the bad one stands late.
+            if place < count && count - place <= 500 && !places[..number].contains(&place) {
+                let bad = WRONG_RECORDS[(count + place) % WRONG_RECORDS.len()];
+                let behind = RIGHT_RECORD.repeat(count - place - 1);
+                cascades.push((place, [&bad[..], &behind].concat()));
+            }
+        }
+    }
+    cascades
+}
+
 /// Running: refusal 8, and every operator under a control.
 pub(super) fn patterns() -> Vec<Case> {
     let mut cases = vec![];

@@ -1,5 +1,6 @@
 //! Files: written, read, opened and read gate by gate.
 
+use super::cascades::{with_one_bad_record, RIGHT_RECORD};
 use super::making::{
     all_on_file, file, gate, gates, on_cascade, on_long_cascade, reader, reading, trailer,
 };
@@ -41,7 +42,16 @@ pub(super) fn written_files() -> Vec<Case> {
 
 /// Refusals 9, 1, 6, 7 of files, in that order.
 pub(super) fn frames() -> Vec<Case> {
-    [damaged_files(), distances(), lines_of_files(), lengths_of_files()].concat()
+    [
+        damaged_files(),
+        editions(),
+        distances(),
+        flipped_bits(),
+        lines_of_files(),
+        bad_records_in_files(),
+        lengths_of_files(),
+    ]
+    .concat()
 }
 
 /// Cut at either end; every byte changed, to small values and to the largest.
@@ -59,6 +69,32 @@ fn damaged_files() -> Vec<Case> {
             cases.push(Case { stored: file, ..Case::new(Call::Opening) });
         }
     }
+    cases
+}
+
+/// Every number for the edition of a file that is good otherwise.
+fn editions() -> Vec<Case> {
+    let mut cases = vec![];
+    for edition in 0..=255 {
+        let mut file = file(1, &gates("D x0"), b"");
+        file[15] = edition;
+        let opening = Case { stored: file.clone(), ..Case::new(Call::Opening) };
+        cases.extend([reading(&file, RECORD, 0), opening]);
+    }
+    cases
+}
+
+/// Each bit of distance and count, where the others fit.
+fn flipped_bits() -> Vec<Case> {
+    let mut cases = vec![];
+    let good = example_file();
+    for bit in 0..48 {
+        let mut file = good.clone();
+        file[good.len() - 8 + bit / 8] ^= 1 << (bit % 8);
+        cases.extend(all_on_file(&file));
+    }
+    // No records, and a count of 2^15.
+    cases.extend(all_on_file(&[b"note", &trailer(2, 0, 1 << 15)[..]].concat()));
     cases
 }
 
@@ -111,6 +147,20 @@ fn lines_of_files() -> Vec<Case> {
         file[trailer_at] = 24;
         file[5] = 0;
         cases.extend(all_on_file(&file));
+    }
+    cases
+}
+
+/// Refusal 7 wherever the bad record stands.
+fn bad_records_in_files() -> Vec<Case> {
+    let mut cases = vec![];
+    for (times, rest) in with_one_bad_record() {
+        let count = times + rest.len() / RECORD;
+        let stored = [&rest[..], &trailer(4, RECORD * count, count)].concat();
+        let opening = Case { record: RIGHT_RECORD, times, stored, ..Case::new(Call::Opening) };
+        let room = RECORD * count;
+        cases.push(Case { call: Call::ReadFile, room, ..opening.clone() });
+        cases.push(opening);
     }
     cases
 }

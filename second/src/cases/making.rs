@@ -1,7 +1,6 @@
 //! How a case is made: gates from words, and each call with what it takes.
 
 use crate::calls::Call;
-use crate::draws::Draws;
 use crate::gate::RECORD;
 use crate::pattern::Lines;
 use crate::synthesis::synthesize;
@@ -54,10 +53,10 @@ pub(super) fn bytes_of(table: &[u16]) -> Vec<u8> {
     table.iter().flat_map(|entry| entry.to_le_bytes()).collect()
 }
 
-/// The cascade of a drawn table.
-pub(super) fn synthesized(lines: u8, draws: &mut Draws) -> Vec<u8> {
+/// The cascade of a good table.
+pub(super) fn synthesized(lines: u8, table: &[u16]) -> Vec<u8> {
     let mut room = vec![0; RECORD * bound(lines)];
-    let gates = synthesize(lines, &draws.table(lines as usize), &mut room).unwrap_or(0);
+    let gates = synthesize(lines, table, &mut room).unwrap_or(0);
     room.truncate(RECORD * gates);
     room
 }

@@ -6,6 +6,7 @@
 mod cascades;
 mod choices;
 mod files;
+mod long_tidying;
 mod making;
 mod published;
 mod tables;
@@ -19,16 +20,18 @@ use crate::vectors::Case;
 
 /// The cases, always the same and in the same order.
 pub fn cases() -> Vec<Case> {
-    let parts: [fn() -> Vec<Case>; 17] = [
+    let parts: [fn() -> Vec<Case>; 19] = [
         tables::tables,
         tables::rooms_for_synthesis,
         cascades::lines_of_cascades,
         cascades::lengths_of_cascades,
         cascades::records,
+        cascades::places_of_bad_records,
         cascades::patterns,
         cascades::rooms_for_cascades,
         cascades::values,
         tidying::tidying,
+        long_tidying::long_tidying,
         choices::choices,
         published::published,
         files::written_files,

@@ -1,27 +1,34 @@
 //! The gate tables and functions that the papers print.
 
 use super::making::{
-    both_on_table, bytes_of, choosing, gate, gates, inverse, on_cascade, VECTOR_OF_003,
+    both_on_table, bytes_of, choosing, gates, inverse, on_cascade, synthesized, VECTOR_OF_003,
 };
 use crate::calls::Call;
+use crate::gate::RECORD;
 use crate::vectors::Case;
 
 const OPERATORS: [&str; 5] = ["C1", "C2", "N", "D", "E"];
+
+/// 003's inverter that changes nothing: no gate.
+const WIRE: &str = "-";
 
 pub(super) fn published() -> Vec<Case> {
     [operators(), identities(), cost_steps(), chart(), functions()].concat()
 }
 
-/// 000 table 1, 001's operators, 003 tables 1 and 2: every operator at every digit;
-/// inverses, as 000 gives them.
+/// What a cascade on one line makes of each digit.
+fn at_each_digit(cascade: &[u8]) -> [Case; 3] {
+    [0, 1, 2].map(|pattern| Case { pattern, ..on_cascade(Call::Run, 1, cascade) })
+}
+
+/// 000 table 1, 001's operators, 003 tables 1 and 2: every operator, and none, at
+/// every digit; inverses, as 000 gives them.
 fn operators() -> Vec<Case> {
-    let mut cases = vec![];
+    let mut cases = at_each_digit(&[]).to_vec();
     for operator in OPERATORS {
         let one = gates(&format!("{operator} x0"));
         cases.push(on_cascade(Call::Tabulate, 1, &one));
-        for pattern in 0..3 {
-            cases.push(Case { pattern, ..on_cascade(Call::Run, 1, &one) });
-        }
+        cases.extend(at_each_digit(&one));
         cases.push(on_cascade(Call::Invert, 1, &one));
     }
     cases
@@ -67,21 +74,27 @@ fn cost_steps() -> Vec<Case> {
     cases
 }
 
-/// 003's compatibility chart: one passes the other exactly if the first and its
-/// inverse cancel across it.
+/// 003's compatibility chart, its wire too. What two together make of each digit; and
+/// one passes the other exactly if the first and its inverse cancel across it.
 fn chart() -> Vec<Case> {
     let mut cases = vec![];
-    for one in OPERATORS {
-        for other in OPERATORS {
-            let undo = inverse(&gate(&format!("{one} x0 x1=0")));
-            let across = gates(&format!("{one} x0 x1=0, {other} x0 x2=0"));
-            cases.push(on_cascade(Call::Tidy, 3, &[across, undo].concat()));
+    for one in OPERATORS.into_iter().chain([WIRE]) {
+        for other in OPERATORS.into_iter().chain([WIRE]) {
+            let with = |operator, rest| match operator {
+                WIRE => vec![],
+                _ => gates(&format!("{operator} x0{rest}")),
+            };
+            cases.extend(at_each_digit(&[with(one, ""), with(other, "")].concat()));
+            let (first, between) = (with(one, " x1=0"), with(other, " x2=0"));
+            let undo: Vec<u8> = first.chunks(RECORD).flat_map(inverse).collect();
+            cases.push(on_cascade(Call::Tidy, 3, &[first, between, undo].concat()));
         }
     }
     cases
 }
 
-/// 003's vector, 000's full adder and counter.
+/// 003's vector; 000's full adder, counter and rotation, and what their cascades
+/// compute.
 fn functions() -> Vec<Case> {
     let mut cases = both_on_table(2, &VECTOR_OF_003).to_vec();
     let file = [&[2][..], &bytes_of(&VECTOR_OF_003)].concat();
@@ -95,7 +108,17 @@ fn functions() -> Vec<Case> {
         })
         .collect();
     let counter: Vec<u16> = (0..243).map(|p| (p % 81 + p / 81) % 81 + p / 81 * 81).collect();
-    cases.extend(both_on_table(4, &adder));
-    cases.extend(both_on_table(5, &counter));
+    // By x3 = 0, 1, 2 the digits x0, x1, x2 come from these lines.
+    let from = [[0, 1, 2], [2, 0, 1], [1, 2, 0]];
+    let rotation: Vec<u16> = (0..81)
+        .map(|p| {
+            let [x0, x1, x2] = from[digit(p, 3) as usize].map(|line| digit(p, line));
+            x0 + 3 * x1 + 9 * x2 + 27 * digit(p, 3)
+        })
+        .collect();
+    for (lines, table) in [(4, adder), (5, counter), (4, rotation)] {
+        cases.extend(both_on_table(lines, &table));
+        cases.push(on_cascade(Call::Tabulate, lines, &synthesized(lines, &table)));
+    }
     cases
 }

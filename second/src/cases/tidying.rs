@@ -63,7 +63,9 @@ pub(super) fn tidying() -> Vec<Case> {
         let back: Vec<_> = there.rchunks(RECORD).flat_map(inverse).collect();
         there.extend(back);
         cases.push(on_cascade(Call::Tidy, lines, &there));
-        cases.push(on_cascade(Call::Tidy, lines, &synthesized(lines.min(4), &mut draws)));
+        let few = lines.min(4);
+        let found = synthesized(few, &draws.table(few as usize));
+        cases.push(on_cascade(Call::Tidy, lines, &found));
     }
     cases
 }

@@ -14,6 +14,7 @@ mod choice;
 mod digests;
 mod examples;
 mod files;
+mod hard;
 mod helpers;
 mod listing;
 mod plain;

@@ -301,12 +301,14 @@ pub fn use_rule(gates: &mut Vec<Gate>, i: usize, j: usize) -> bool {
 /// One step: the smallest i that has a fitting open pair, then the smallest j.
 pub fn step(gates: &mut Vec<Gate>) -> bool {
     for i in 0..gates.len() {
-        let mut open = true;
         for j in i + 1..gates.len() {
-            if open && use_rule(gates, i, j) {
+            if use_rule(gates, i, j) {
                 return true;
             }
-            open = open && may_change_places(&gates[i], &gates[j]);
+            // From here on gate i has this one between.
+            if !may_change_places(&gates[i], &gates[j]) {
+                break;
+            }
         }
     }
     false

@@ -2,8 +2,9 @@
 //! (That the two agree after every single step is tested in `steps`.)
 
 use drawing::Numbers;
-use second::cascade::price;
-use second::cases::gates;
+use second::calls::Call;
+use second::cascade::{check, price};
+use second::cases::{cases, gates};
 use second::tidying::Tidied;
 
 use crate::calls::{computed, synthesized, tidy};
@@ -213,6 +214,33 @@ fn a_tidied_buffer_is_cut_by_the_caller() {
     let whole = second::cascade::check(1, &records).unwrap_err();
     assert_eq!((whole.number, whole.place), (7, 2));
     assert_eq!(second::cascade::check(1, &records[..16]), Ok(2));
+}
+
+/// Compares on the tidying cases that store so many bytes.
+fn compare_cases(stored: std::ops::RangeInclusive<usize>) {
+    let of_tidying = cases().into_iter().filter(|case| case.call == Call::Tidy);
+    for case in of_tidying.filter(|case| stored.contains(&case.stored.len())) {
+        if check(case.lines, &case.bytes()).is_ok() {
+            tidied(case.lines as usize, &case.bytes());
+        }
+    }
+}
+
+#[test]
+fn cases_of_few_gates() {
+    compare_cases(0..=7_999);
+}
+
+#[test]
+fn cases_of_a_thousand_gates_and_more() {
+    compare_cases(8_000..=8_000);
+}
+
+/// The plain procedure takes some minutes for these.
+#[test]
+#[ignore]
+fn cases_of_the_most_gates() {
+    compare_cases(8_001..=64_000);
 }
 
 /// Cascades of the kinds that a search without memory takes minutes for when they

@@ -91,7 +91,7 @@ fn the_cases_read_as_written_and_are_the_same_each_time() {
     let file = write_cases(&cases());
     assert_eq!(read_cases(&file), Some(cases()));
     assert!(cases().iter().all(Case::fits));
-    assert!(file.len() < 1 << 20);
+    assert!(file.len() < 1_500_000);
     assert_eq!(lines(&cases()).lines().count(), cases().len());
 }
 
