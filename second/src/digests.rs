@@ -2,7 +2,7 @@
 //! too: all tables on two lines, and drawn ones on three to six.
 
 use crate::answer::Answer;
-use crate::cascade::{invert, price};
+use crate::cascade::{invert, price, MOST_GATES};
 use crate::draws::Draws;
 use crate::gate::RECORD;
 use crate::pattern::{Lines, MOST_PATTERNS};
@@ -20,6 +20,10 @@ const CASCADES_DRAWN: [usize; 4] = [1_000, 1_000, 500, 200];
 const GATES: usize = 60;
 const KINDS: usize = 8;
 
+/// Gates of a long dense cascade, and how many are drawn for 3 to 6 lines.
+const LONG_GATES: usize = MOST_GATES;
+const LONG_DRAWN: [usize; 4] = [10, 10, 5, 5];
+
 /// Prints all families, each in its lines.
 pub fn report() -> Answer<String> {
     let mut text = all_two_line_tables()?.text("tables", 2);
@@ -31,21 +35,34 @@ pub fn report() -> Answer<String> {
         }
         text += &sums.text("tables", lines);
     }
+    text += &families("cascades", 100, CASCADES_DRAWN, |draws, lines| draws.cascade(lines, GATES))?;
+    text += &families("dense", 200, CASCADES_DRAWN, |draws, lines| {
+        draws.dense_cascade(lines, GATES, KINDS)
+    })?;
+    Ok(text)
+}
+
+/// Prints the families of long dense cascades.
+pub fn report_long() -> Answer<String> {
+    families("long", 300, LONG_DRAWN, |draws, lines| draws.dense_cascade(lines, LONG_GATES, KINDS))
+}
+
+/// A family for 3 to 6 lines, with as many cascades as `drawn` says. The seed of each
+/// is the lines and a number more.
+fn families(
+    name: &str,
+    seed: u32,
+    drawn: [usize; 4],
+    draw: impl Fn(&mut Draws, usize) -> Vec<u8>,
+) -> Answer<String> {
+    let mut text = String::new();
     for lines in 3..=6 {
-        let mut draws = Draws::from_seed(100 + lines as u32);
+        let mut draws = Draws::from_seed(seed + lines as u32);
         let mut sums = Sums::new(lines)?;
-        for _ in 0..CASCADES_DRAWN[lines - 3] {
-            sums.add_cascade(&draws.cascade(lines, GATES))?;
+        for _ in 0..drawn[lines - 3] {
+            sums.add_cascade(&draw(&mut draws, lines))?;
         }
-        text += &sums.text("cascades", lines);
-    }
-    for lines in 3..=6 {
-        let mut draws = Draws::from_seed(200 + lines as u32);
-        let mut sums = Sums::new(lines)?;
-        for _ in 0..CASCADES_DRAWN[lines - 3] {
-            sums.add_cascade(&draws.dense_cascade(lines, GATES, KINDS))?;
-        }
-        text += &sums.text("dense", lines);
+        text += &sums.text(name, lines);
     }
     Ok(text)
 }

@@ -1,11 +1,12 @@
 //! The program. `second sheet < tablefile` prints the listing of the table's
-//! cascade, or the refusal. The other three are for comparing programs: `cases`
+//! cascade, or the refusal. The others are for comparing programs: `cases`
 //! writes test cases, `vectors` reads them and prints what each must answer, and
-//! `digests` prints sums over many tables and cascades.
+//! `digests` and `digests-long` print sums over many tables and cascades.
 
 use std::io::{self, Read, Write};
 use std::process::ExitCode;
 
+use second::answer::Answer;
 use second::{cases, digests, sheet, vectors};
 
 fn main() -> ExitCode {
@@ -14,12 +15,14 @@ fn main() -> ExitCode {
         [what] if what == "sheet" => print_sheet(),
         [what] if what == "cases" => print(&vectors::write_cases(&cases::cases())),
         [what] if what == "vectors" => print_vectors(),
-        [what] if what == "digests" => print_digests(),
+        [what] if what == "digests" => print_digests(digests::report()),
+        [what] if what == "digests-long" => print_digests(digests::report_long()),
         _ => {
             eprintln!("use: second sheet < tablefile");
             eprintln!("     second cases > casefile");
             eprintln!("     second vectors < casefile");
             eprintln!("     second digests");
+            eprintln!("     second digests-long");
             return ExitCode::from(2);
         }
     };
@@ -53,8 +56,8 @@ fn print_vectors() -> io::Result<()> {
     print(vectors::lines(&cases).as_bytes())
 }
 
-fn print_digests() -> io::Result<()> {
-    match digests::report() {
+fn print_digests(report: Answer<String>) -> io::Result<()> {
+    match report {
         Ok(text) => print(text.as_bytes()),
         Err(refusal) => Err(io::Error::other(format!("{refusal:?}"))),
     }

@@ -1,7 +1,7 @@
 //! Figures over all 362,880 two-line tables, from an outside computation.
 
 use second::cascade::run;
-use second::digests::report;
+use second::digests::{report, report_long};
 use second::synthesis::synthesize;
 use second::tabulating::tabulate;
 use second::tidying::tidy;
@@ -92,17 +92,30 @@ records ";
     check_families(&report);
 }
 
+/// The values that a report gives a name, one for each family.
+fn values(report: &str, name: &str) -> Vec<String> {
+    let of = |line: &str| line.strip_prefix(name)?.strip_prefix(' ').map(String::from);
+    report.lines().filter_map(of).collect()
+}
+
 /// All families are there; tidying keeps every table, and finds something in each.
 fn check_families(report: &str) {
-    let values = |name: &str| -> Vec<String> {
-        let of = |line: &str| line.strip_prefix(name)?.strip_prefix(' ').map(String::from);
-        report.lines().filter_map(of).collect()
-    };
-    assert_eq!(values("tables"), ["2", "3", "4", "5", "6"]);
-    assert_eq!(values("cascades"), ["3", "4", "5", "6"]);
-    assert_eq!(values("dense"), ["3", "4", "5", "6"]);
+    assert_eq!(values(report, "tables"), ["2", "3", "4", "5", "6"]);
+    assert_eq!(values(report, "cascades"), ["3", "4", "5", "6"]);
+    assert_eq!(values(report, "dense"), ["3", "4", "5", "6"]);
     assert_eq!(report.lines().count(), 13 * 19);
-    assert_eq!(values("computed"), values("kept"));
-    assert_eq!(values("steps").len(), 13);
-    assert!(values("steps").iter().all(|steps| steps != "0"));
+    assert_eq!(values(report, "computed"), values(report, "kept"));
+    assert_eq!(values(report, "steps").len(), 13);
+    assert!(values(report, "steps").iter().all(|steps| steps != "0"));
+}
+
+#[test]
+fn long_families_take_many_steps() {
+    let report = report_long().unwrap();
+    assert_eq!(values(&report, "long"), ["3", "4", "5", "6"]);
+    assert_eq!(values(&report, "most gates"), ["8000"; 4]);
+    assert_eq!(report.lines().count(), 4 * 19);
+    assert_eq!(values(&report, "computed"), values(&report, "kept"));
+    let steps = values(&report, "steps");
+    assert!(steps.iter().all(|steps| steps.parse::<usize>().unwrap() > 5_000), "{steps:?}");
 }
