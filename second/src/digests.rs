@@ -20,9 +20,10 @@ const CASCADES_DRAWN: [usize; 4] = [1_000, 1_000, 500, 200];
 const GATES: usize = 60;
 const KINDS: usize = 8;
 
-/// Gates of a long dense cascade, and how many are drawn for 3 to 6 lines.
-const LONG_GATES: usize = MOST_GATES;
-const LONG_DRAWN: [usize; 4] = [10, 10, 5, 5];
+/// How many long cascades are drawn for 3 to 6 lines, and how many kinds of gates one
+/// has where all pass each other.
+const LONG_DRAWN: [usize; 4] = [10, 10, 6, 6];
+const PASSING_KINDS: usize = 40;
 
 /// Prints all families, each in its lines.
 pub fn report() -> Answer<String> {
@@ -35,32 +36,37 @@ pub fn report() -> Answer<String> {
         }
         text += &sums.text("tables", lines);
     }
-    text += &families("cascades", 100, CASCADES_DRAWN, |draws, lines| draws.cascade(lines, GATES))?;
-    text += &families("dense", 200, CASCADES_DRAWN, |draws, lines| {
+    text +=
+        &families("cascades", 100, CASCADES_DRAWN, |draws, lines, _| draws.cascade(lines, GATES))?;
+    text += &families("dense", 200, CASCADES_DRAWN, |draws, lines, _| {
         draws.dense_cascade(lines, GATES, KINDS)
     })?;
     Ok(text)
 }
 
-/// Prints the families of long dense cascades.
+/// Prints the families of long dense cascades. In every second one all gates pass each
+/// other.
 pub fn report_long() -> Answer<String> {
-    families("long", 300, LONG_DRAWN, |draws, lines| draws.dense_cascade(lines, LONG_GATES, KINDS))
+    families("long", 300, LONG_DRAWN, |draws, lines, number| match number % 2 {
+        0 => draws.dense_cascade(lines, MOST_GATES, KINDS),
+        _ => draws.passing_cascade(lines, MOST_GATES, PASSING_KINDS),
+    })
 }
 
-/// A family for 3 to 6 lines, with as many cascades as `drawn` says. The seed of each
-/// is the lines and a number more.
+/// A family for 3 to 6 lines, with as many cascades as `drawn` says, which are counted
+/// from 0. The seed of each is the lines and a number more.
 fn families(
     name: &str,
     seed: u32,
     drawn: [usize; 4],
-    draw: impl Fn(&mut Draws, usize) -> Vec<u8>,
+    draw: impl Fn(&mut Draws, usize, usize) -> Vec<u8>,
 ) -> Answer<String> {
     let mut text = String::new();
     for lines in 3..=6 {
         let mut draws = Draws::from_seed(seed + lines as u32);
         let mut sums = Sums::new(lines)?;
-        for _ in 0..drawn[lines - 3] {
-            sums.add_cascade(&draw(&mut draws, lines))?;
+        for number in 0..drawn[lines - 3] {
+            sums.add_cascade(&draw(&mut draws, lines, number))?;
         }
         text += &sums.text(name, lines);
     }

@@ -57,6 +57,28 @@ impl Draws {
     /// first.
     pub fn dense_cascade(&mut self, lines: usize, gates: usize, kinds: usize) -> Vec<u8> {
         let kinds: Vec<_> = (0..kinds).map(|_| self.gate(lines)).collect();
+        self.mixed(gates, &kinds)
+    }
+
+    /// The same out of gates that all pass each other: each of the few becomes a C1 or
+    /// a C2 (C1 if its number was odd) on the last line, whose control goes to the line
+    /// that was its target.
+    pub fn passing_cascade(&mut self, lines: usize, gates: usize, kinds: usize) -> Vec<u8> {
+        let kinds: Vec<_> = (0..kinds)
+            .map(|_| {
+                let mut gate = self.gate(lines);
+                let target = gate[1] as usize;
+                gate.swap(2 + target, 1 + lines);
+                gate[0] = 2 - gate[0] % 2;
+                gate[1] = lines as u8 - 1;
+                gate
+            })
+            .collect();
+        self.mixed(gates, &kinds)
+    }
+
+    /// So many gates, each drawn from some.
+    fn mixed(&mut self, gates: usize, kinds: &[[u8; RECORD]]) -> Vec<u8> {
         (0..gates).flat_map(|_| kinds[self.below(kinds.len())]).collect()
     }
 }

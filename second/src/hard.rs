@@ -148,7 +148,7 @@ pub fn segments() -> Vec<Part> {
 /// The worst that were thought of or found. Segments alone come first.
 pub fn hard() -> [(&'static str, Recipe); 8] {
     let rotations = vec![words(C1, 5, 243, 0, 212), words(C2, 5, 243, 0, 212)];
-    let equal = |start| vec![words(C1, 5, 1, start, 0)];
+    let equal = |operator, start| vec![words(operator, 5, 1, start, 0)];
     let recipe = |idle, standing, order, parts| Recipe { idle, standing, order, parts };
     [
         ("segments", recipe(0, 0, 0, segments())),
@@ -156,8 +156,8 @@ pub fn hard() -> [(&'static str, Recipe); 8] {
         ("chains behind 683 that pass all", recipe(0, 683, 0, rotations)),
         ("segments behind idle gates", recipe(2_000, 0, 0, segments())),
         ("chains behind idle gates", recipe(3_500, 0, 0, chains())),
-        ("equal gates behind 683 that pass all", recipe(0, 683, 0, equal(1))),
-        ("equal gates behind 683, shuffled", recipe(0, 683, 4, equal(188))),
-        ("equal gates behind 300 of them, shuffled", recipe(0, 300, 3, equal(188))),
+        ("equal gates behind 683 that pass all", recipe(0, 683, 0, equal(C1, 134))),
+        ("equal gates behind 683, shuffled", recipe(0, 683, 30, equal(C2, 105))),
+        ("equal gates behind 250 of them, shuffled", recipe(0, 250, 29, equal(C2, 153))),
     ]
 }
