@@ -1,6 +1,8 @@
 //! Cascades, good and bad.
 
 use drawing::{inverse, Numbers};
+use second::gate::Operator::{C1, C2};
+use second::hard::{words, Recipe};
 use second::synthesis::synthesize;
 use second::tabulating::tabulate;
 use second::tidying::tidy;
@@ -60,6 +62,19 @@ pub fn good_cascade(numbers: &mut Numbers, lines: usize) -> Vec<u8> {
         // What synthesis makes.
         _ => synthesized(lines, &permutation(numbers, lines)),
     }
+}
+
+/// A few kinds of gates over and over behind standing rows, on six lines: tidying takes
+/// thousands of steps, and changes gates that are far from the rows that reach them.
+pub fn hard_cascade(numbers: &mut Numbers) -> Vec<u8> {
+    let kinds = 1 + numbers.below(3);
+    let parts = (0..kinds).map(|_| {
+        let operator = numbers.pick(&[C1, C2]);
+        words(operator, 5, 1 + numbers.below(9), numbers.below(243), numbers.below(2))
+    });
+    let parts = parts.collect();
+    let (standing, order) = (numbers.below(684), numbers.next() as u32);
+    Recipe { idle: 0, standing, order, parts }.cascade(121 + numbers.below(7_880))
 }
 
 /// The cascade of a good table.

@@ -12,7 +12,7 @@ use second::pattern::Lines;
 use second::sheet;
 use second::vectors::Case;
 
-use cascades::{partner, some_cascade};
+use cascades::{hard_cascade, partner, some_cascade};
 use files::{some_end, some_file, some_place};
 use tables::some_table;
 pub use tables::some_table_file;
@@ -93,6 +93,10 @@ impl Input {
             Call::CheckTable | Call::Synthesize => input.take_table(numbers),
             Call::ReadFile | Call::Opening | Call::Next => input.take_file(numbers),
             Call::Sheet => input.take_table_file(numbers),
+            Call::Tidy if numbers.one_in(1_000) => {
+                input.lines = 6;
+                input.bytes = hard_cascade(numbers);
+            }
             _ => input.take_cascade(numbers),
         }
         input
