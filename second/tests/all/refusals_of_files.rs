@@ -36,11 +36,12 @@ fn nine_the_frame() {
         both_refuse(&file()[file().len() - length..], 9, 0);
     }
     let trailer = file().len() - 8;
-    for edition in [0, 2, 3, 255] {
+    for edition in (0..=255).filter(|&edition| edition != 1) {
         both_refuse(&changed(|file| file[trailer + 7] = edition), 9, 0);
     }
     // The distance, each byte of it, then the count.
-    for (byte, value) in [(0, 16), (0, 25), (0, 23), (1, 1), (2, 1), (3, 1), (4, 2), (4, 4), (5, 1)]
+    for (byte, value) in
+        [(0, 16), (0, 25), (0, 23), (1, 1), (2, 1), (3, 1), (4, 2), (4, 4), (5, 1), (5, 128)]
     {
         both_refuse(&changed(|file| file[trailer + byte] = value), 9, 0);
     }

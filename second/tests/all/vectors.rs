@@ -222,6 +222,22 @@ fn the_edges_are_there() {
 }
 
 #[test]
+fn long_tidying_takes_many_steps() {
+    let tidied = gates_and_steps();
+    for gates in [16, 17, 63, 64, 65, 80, 255, 256, 257, 272, 1_000, 8_000] {
+        let steps = tidied.iter().filter(|(given, _)| *given == gates).map(|(_, steps)| *steps);
+        let many = steps.filter(|&steps| steps >= gates as u64 / 4).count();
+        assert!(many >= 3, "{many} cases of {gates} gates");
+    }
+}
+
+/// The gates of each case of tidying, and the steps that it takes.
+fn gates_and_steps() -> Vec<(usize, u64)> {
+    let of_tidying = cases().into_iter().filter(|case| case.call == Call::Tidy);
+    of_tidying.map(|case| (case.bytes().len() / 8, numbers(&case)[4])).collect()
+}
+
+#[test]
 fn draws_are_the_generator_that_is_written_down() {
     // The states after seed 1, high halves.
     let mut state = 1u64;
