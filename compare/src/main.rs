@@ -6,10 +6,9 @@
 //! if not said) from a seed (1). It calls both with each, and compares the
 //! answer's number, place and values and every lent byte, with the bytes around
 //! what is lent. It prints how many inputs each call had and what became of them,
-//! what the program `tiles` prints beside the second program, then `no difference`;
-//! or the first difference, and ends with status 1. Input k
-//! of a seed is always the same, and FIRST says with which to begin: `compare 1
-//! SEED K` makes input K alone, after the cases.
+//! starts the program `tiles` on table files, and prints `no difference`; or the first
+//! difference, and ends with status 1. Input k of a seed is always the same, and FIRST
+//! says with which to begin: `compare 1 SEED K` makes input K alone, after the cases.
 
 #![deny(unsafe_code)]
 
