@@ -1,8 +1,8 @@
 //! Links the proved library: the archive that `rt staticlib exports` leaves in
-//! target/staticlib, or the one in the folder that TILES_LIBRARY names.
+//! target/staticlib, or the one in the folder that TILES_LIBRARY names. Without one
+//! `cargo check` goes on, and nothing can be linked.
 
 use std::path::{Path, PathBuf};
-use std::process::exit;
 
 fn main() {
     println!("cargo:rerun-if-env-changed=TILES_LIBRARY");
@@ -13,8 +13,7 @@ fn main() {
     let archive = folder.join("libexports.a");
     println!("cargo:rerun-if-changed={}", archive.display());
     if !archive.is_file() {
-        eprintln!("no {}: run rt staticlib exports first", archive.display());
-        exit(1);
+        println!("cargo:warning=no {}: run rt staticlib exports first", archive.display());
     }
     println!("cargo:rustc-link-search=native={}", folder.display());
     println!("cargo:rustc-link-lib=static=exports");
