@@ -7,7 +7,7 @@ use mathlib.Core.List.{List, [], _∷_}
 use Prim.Native.Nat.{ℕ}
 use Rattle.card.specs.Card.{Answer, Answer.accepted, Answer.refused, refusing}
 use Rattle.card.proofs.Cards.{not-accepted}
-use Rattle.demands.specs.Rows.{Row, decided, FirstIs, NoneApplies}
+use Rattle.demands.specs.CardRows.{Row, decided, FirstIs, NoneApplies}
 
 module _ (vs : List ℕ) where
   pub first-refuses : (rows : List Row) (k p : ℕ) → FirstIs rows k p → decided rows (accepted vs) ≡ refused k p

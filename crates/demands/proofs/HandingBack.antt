@@ -23,8 +23,8 @@ cheaper n v one two r h =
       none = λ k p rows. let e = h .none k p (exactly .refusals k p .1 rows) in record { start = e .0; empty = e .1 };
     }
 
-pub reader-opened : (f : RefT (List ℕ)) (r : Reader) → Opened f r → OpenedBy f r
-reader-opened f r o =
+pub opened : (f : RefT (List ℕ)) (r : Reader) → Opened f r → OpenedBy f r
+opened f r o =
     let exactly = opening (now f) in
     record {
       file = λ none. o .found _ (exactly .accepts .1 none) .0;

@@ -19,7 +19,7 @@ use Rattle.tables.specs.Tables.{tooLarge, repeated, firstLarge, firstRepeated}
 use Rattle.cascades.specs.Cascades.{records, ran}
 use Rattle.cascades.specs.Answers.{badRecord, firstBad}
 use Rattle.choice.specs.Choice.{firstDifference}
-use Rattle.demands.specs.Rows.{Places}
+use Rattle.demands.specs.CardRows.{Places}
 use Rattle.demands.specs.Refusals.{row3, row4, row7, row11, Repeats}
 
 -- the first number below m that passes a test is the least with the property that the test decides

@@ -9,7 +9,7 @@ use lib.ListN.{getD}
 use denote.Ref.{RefT, ptr, now}
 use Rattle.card.specs.Card.{Answer, Answer.accepted, Answer.refused, onLines}
 use Rattle.cascades.specs.Cascades.{gatesOf}
-use Rattle.cascades.specs.Answers.{onRecords}
+use Rattle.cascades.specs.Answers.{onRecords, countedAs, ranAs, pricedAs}
 use Rattle.tables.specs.declared.Checked.{Checked}
 use Rattle.cascades.specs.declared.Counted.{Counted}
 use Rattle.cascades.specs.declared.Ran.{Ran}
@@ -20,19 +20,17 @@ use Rattle.listings.specs.declared.Listed.{Listed}
 use Rattle.files.specs.declared.Written.{Written}
 use Rattle.files.specs.declared.ReadBack.{ReadBack}
 use Rattle.files.specs.declared.Extent.{Extent}
-use Rattle.tables.specs.Answers.{checkedAs}
-use Rattle.cascades.specs.Answers.{countedAs, ranAs, pricedAs}
+use Rattle.tables.specs.Tables.{checkedAs}
 use Rattle.tabulating.specs.Tabulating.{tabulatedAs}
-use Rattle.tidying.specs.Answers.{tidiedAs}
+use Rattle.tidying.specs.TidyAnswers.{tidiedAs}
 use Rattle.listings.specs.Listings.{listedAs}
-use Rattle.files.specs.Files.{writtenAs, readAs, openingAs}
+use Rattle.files.specs.Files.{writtenAs, readAs, openingAs, openingAnswer}
 use Rattle.choice.specs.declared.Choice.{Choice}
 use Rattle.choice.specs.Choice.{choiceAs, secondWins, chooseAnswer, Handed}
-use Rattle.files.specs.Files.{openingAnswer}
 use Rattle.readers.specs.declared.Given.{Given}
 use Rattle.readers.specs.declared.Reader.{Reader}
 use Rattle.readers.specs.Readers.{givenAs, Opened}
-use Rattle.demands.specs.Rows.{decided}
+use Rattle.demands.specs.CardRows.{decided}
 use Rattle.demands.specs.Refusals.{choiceRows}
 use Rattle.demands.proofs.Decided.{accepted-values}
 

@@ -23,7 +23,7 @@ use Rattle.readers.specs.Readers.{recordStands, asGiven, givenAs, givenAt, plac
 use Rattle.readers.specs.declared.Given.{Given}
 use Rattle.listings.specs.Listings.{listingText, listingAnswer, listingRoom}
 use Rattle.sheets.specs.Sheets.{linesOf, entriesOf, fileAnswer, sheetText, sheetAnswer, sheetRoom}
-use Rattle.demands.specs.Rows.{Row, decided, FirstIs, NoneApplies, Exactly, Kept}
+use Rattle.demands.specs.CardRows.{Row, decided, FirstIs, NoneApplies, Exactly, Kept}
 use Rattle.demands.specs.Refusals.{row1, row2, row3, row4, row5, row6, row7, row7-next, row8, row9, row9-note, row10, row11, choiceRows, openingRows}
 use Rattle.demands.proofs.Decided.{first-refuses, refused-first, none-accepts, accepted-none}
 

@@ -22,7 +22,7 @@ use Rattle.cascades.proofs.Cascades.{whole-cascade, gates-count}
 use Rattle.cascades.proofs.Checks.{check-whole}
 use Rattle.cascades.proofs.Stored.{laid-gates}
 use Rattle.cascades.proofs.Undone.{undone, length-undoing, undoing-cascade}
-use Rattle.procedure.proofs.Inverses.{inverse-entry, entry-inverse, inverse-permutation}
+use Rattle.procedure.proofs.InverseTables.{inverse-entry, entry-inverse, inverse-permutation}
 use Rattle.digits.proofs.Sizes.{three-pos}
 use Rattle.synthesis.specs.Synthesis.{bound, synthesized, synthesizeAnswer, synthesizeRoom}
 use Rattle.synthesis.proofs.Synthesis.{synthesized-computes, synthesized-inverse, synthesized-cascade, synthesized-bound}
@@ -33,7 +33,7 @@ use Rattle.readers.specs.declared.Given.{Given}
 use Rattle.readers.specs.declared.Reader.{Reader}
 use Rattle.readers.specs.Readers.{asGiven, handed, Opened}
 use Rattle.readers.proofs.Handed.{reader-gates}
-use Rattle.demands.specs.Rows.{NoneApplies}
+use Rattle.demands.specs.CardRows.{NoneApplies}
 use Rattle.demands.specs.Worth.{TableWorth}
 use Rattle.demands.proofs.One.{check-table, synthesize, check-cascade, invert}
 

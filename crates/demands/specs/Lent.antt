@@ -8,7 +8,7 @@ use Rattle.cascades.specs.Cascades.{gatesOf}
 use Rattle.choice.specs.Choice.{secondWins}
 use Rattle.files.specs.Files.{linesIn, startOf, trailerAt}
 use Rattle.readers.specs.declared.Reader.{Reader}
-use Rattle.demands.specs.Rows.{FirstIs, NoneApplies}
+use Rattle.demands.specs.CardRows.{FirstIs, NoneApplies}
 use Rattle.demands.specs.Refusals.{choiceRows, openingRows}
 
 -- the empty part at the start of what was lent

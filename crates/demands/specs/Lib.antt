@@ -1,4 +1,4 @@
-pub mod Rows
+pub mod CardRows
 pub mod Refusals
 pub mod Worth
 pub mod Lent

@@ -14,7 +14,7 @@ use Rattle.cascades.specs.Answers.{lengthOk, firstBad}
 use Rattle.choice.specs.Choice.{firstDifference}
 use Rattle.files.specs.Files.{linesIn, recordsOf, frameOk}
 use Rattle.readers.specs.Readers.{recordStands}
-use Rattle.demands.specs.Rows.{Row}
+use Rattle.demands.specs.CardRows.{Row}
 
 -- lines not 1 to 6
 abbrev pub row1 : ℕ → Row

@@ -1,5 +1,5 @@
 pub mod Digits
 pub mod Packs
-pub mod Three
+pub mod ThreeCases
 pub mod Sizes
 pub mod Bits

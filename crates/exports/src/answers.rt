@@ -2,10 +2,10 @@
 ghost use mathlib.Core.Path.{_≡_};
 ghost use mathlib.Core.List.{_∷_, []};
 ghost use Rattle.card.specs.Card.{Answer.accepted, Answer.refused};
-ghost use Rattle.tables.specs.Answers.{checkedAs};
+ghost use Rattle.tables.specs.Tables.{checkedAs};
 ghost use Rattle.cascades.specs.Answers.{countedAs, ranAs, pricedAs};
 ghost use Rattle.tabulating.specs.Tabulating.{tabulatedAs};
-ghost use Rattle.tidying.specs.Answers.{tidiedAs};
+ghost use Rattle.tidying.specs.TidyAnswers.{tidiedAs};
 ghost use Rattle.choice.specs.Choice.{choiceAs};
 ghost use Rattle.files.specs.Files.{writtenAs, readAs, openingAs};
 ghost use Rattle.listings.specs.Listings.{listedAs};

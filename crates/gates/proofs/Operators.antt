@@ -7,7 +7,7 @@ use native.Mathlib.Nat.{mod-lt}
 use native.Mathlib.Omega.{arith}
 use lib.Dec.{ltb}
 use lib.Bits.{bitXor}
-use Rattle.digits.proofs.Three.{three}
+use Rattle.digits.proofs.ThreeCases.{three}
 use Rattle.gates.specs.Gates.{act, inverseOp}
 
 -- the definition is the printed table: a row for each of x = 0, 1, 2, a column for each of C1 C2 N D E

@@ -4,7 +4,7 @@ ghost use Prim.Native.Nat.{_≤_};
 ghost use lib.ListN.{length};
 ghost use Rattle.cascades.specs.Cascades.{records, gatesOf};
 ghost use Rattle.cascades.specs.Inner.Checked.{Whole};
-ghost use Rattle.texts.specs.Inner.Stores.{Stored};
+ghost use Rattle.texts.specs.Inner.StoredTexts.{Stored};
 ghost use Rattle.listings.specs.Listings.{headText, listingWith};
 use texts::gate_texts;
 use texts::numbers;

@@ -3,7 +3,7 @@ pub mod Mixes
 pub mod Steps
 pub mod Differences
 pub mod Settles
-pub mod Bounds
+pub mod GateBounds
 pub mod Swaps
 pub mod Pairs
-pub mod Inverses
+pub mod InverseTables

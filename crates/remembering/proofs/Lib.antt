@@ -4,5 +4,5 @@ pub mod Clearances
 pub mod Reaches
 pub mod Looks
 pub mod RowPairs
-pub mod Words
+pub mod RowWords
 pub mod Stretches

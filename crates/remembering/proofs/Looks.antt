@@ -15,7 +15,7 @@ use Rattle.remembering.specs.declared.changes.Change.{Change}
 use Rattle.remembering.specs.Inner.Buffers.{gatesIn, isGap, GateOrGap, BufferHolds}
 use Rattle.remembering.specs.Inner.Rows.{Quiet, settledMark, RowKnown, RowsKnown}
 use Rattle.remembering.specs.Inner.Views.{SeenAs}
-use Rattle.remembering.specs.Inner.Changes.{changeOf, ChangeFits, RowsAhead, LookFits, LookedAgain, Looked}
+use Rattle.remembering.specs.Inner.GateChanges.{changeOf, ChangeFits, RowsAhead, LookFits, LookedAgain, Looked}
 use Rattle.remembering.proofs.Clearances.{row-stays, again-near, row-behind, row-own}
 
 -- the gates as the change leaves them

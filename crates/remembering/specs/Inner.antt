@@ -1,4 +1,4 @@
 pub mod Buffers
-pub mod Changes
+pub mod GateChanges
 pub mod Rows
 pub mod Views

@@ -6,7 +6,7 @@ ghost use lib.ListN.{set};
 ghost use Rattle.remembering.specs.Inner.Buffers.{gatesIn, isGap, GateOrGap};
 ghost use Rattle.remembering.specs.Inner.Rows.{settledMark, RowKnown};
 ghost use Rattle.remembering.specs.Inner.Views.{SeenAs, StretchesMarked};
-ghost use Rattle.remembering.specs.Inner.Changes.{changeOf, MemoryTrue, ChangeFits, RowsAhead, LookFits, LookedAgain, Looked};
+ghost use Rattle.remembering.specs.Inner.GateChanges.{changeOf, MemoryTrue, ChangeFits, RowsAhead, LookFits, LookedAgain, Looked};
 use super::rows::SETTLED;
 use super::views::Sets;
 use gates::Gate;
@@ -47,7 +47,7 @@ fn look_again(b: &[u8], change: Change, r: usize, n: u16) -> u16
     if c == change.place {
         return change.place as u16;
     }
-    let h = super::views::read_word(b, change.count, r);
+    let h = super::views::row_word(b, change.count, r);
     let w = gates::words::word_of(change.gate);
     if !rules::passing::may_change(h, w) {
         return change.place as u16;

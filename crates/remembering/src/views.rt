@@ -84,7 +84,7 @@ fn kind(w: u64) -> u64
 }
 
 // Record k.
-pub fn read_word(b: &[u8], m: usize, k: usize) -> u64
+pub fn row_word(b: &[u8], m: usize, k: usize) -> u64
     requires { ⌜ BufferHolds (now b) (gatesIn (now b) m) × (k < m) ⌝ }
     ensures { λ r. ⌜ GateWord r × (gateOf r ≡ gate (gatesIn (now (b .entry)) m) k) ⌝ }
 {
@@ -128,7 +128,7 @@ fn stretch_of(b: &[u8], m: usize, x: usize) -> Sets
     let mut kinds: u64 = 0;
     let mut k: usize = 0;
     while k < 16 {
-        let w = read_word(b, m, x + k);
+        let w = row_word(b, m, x + k);
         types = types | view(w);
         kinds = kinds | kind(w);
         k = k + 1;
@@ -180,7 +180,7 @@ pub fn pass_stretches(b: &[u8], marks: &mut [u64], m: usize, i: usize, from: usi
     if from % 16 != 0 {
         return from;
     }
-    let seen = see_word(read_word(b, m, i));
+    let seen = see_word(row_word(b, m, i));
     let mut s = from / 16;
     while 16 * s + 16 <= m {
         mark_stretch(b, marks, m, s);

@@ -17,7 +17,7 @@ use Rattle.ranges.proofs.Lists.{each-imp}
 use Rattle.ranges.proofs.Triples.{beq-same}
 use Rattle.ranges.proofs.Tallies.{tally-none, tally-one}
 use Rattle.digits.specs.Digits.{digit, put}
-use Rattle.digits.proofs.Three.{three}
+use Rattle.digits.proofs.ThreeCases.{three}
 use Rattle.digits.proofs.Digits.{digit-lt, digit-put-same, digit-put-other, put-same, put-lt}
 use Rattle.gates.specs.declared.Gate.{Gate}
 use Rattle.gates.specs.Gates.{act, inverseOp, control, holds, firesOn, applied, inverse, IsGate}

@@ -3,7 +3,7 @@ ghost use mathlib.Core.Path.{_≡_};
 ghost use Prim.Native.Nat.{_≤_};
 ghost use lib.ListN.{length};
 ghost use Rattle.card.specs.Card.{Answer.refused};
-ghost use Rattle.texts.specs.Inner.Stores.{Stored};
+ghost use Rattle.texts.specs.Inner.StoredTexts.{Stored};
 ghost use Rattle.listings.specs.Listings.{listedAs};
 ghost use Rattle.sheets.specs.Sheets.{fileAnswer, sheetText, sheetAnswer, sheetRoom};
 use listings::Listed;

@@ -4,7 +4,7 @@ use mathlib.Core.Bool.{Bool, true, false, cond}
 use Prim.Native.Nat.{ℕ, _+_, _-_, _≤_, _<_}
 use native.Mathlib.Omega.{arith}
 use lib.Dec.{eqb}
-use Rattle.digits.proofs.Three.{three}
+use Rattle.digits.proofs.ThreeCases.{three}
 use Rattle.gates.specs.Gates.{act}
 use Rattle.synthesis.specs.Synthesis.{exchanger}
 

@@ -15,8 +15,8 @@ use Rattle.gates.specs.Gates.{applied, IsGate}
 use Rattle.tables.specs.Permutations.{Permutation, inverseTable}
 use Rattle.procedure.proofs.Families.{Made}
 use Rattle.procedure.proofs.Settles.{computes, gates-made}
-use Rattle.procedure.proofs.Bounds.{enough}
-use Rattle.procedure.proofs.Inverses.{inverse-within, entry-inverse}
+use Rattle.procedure.proofs.GateBounds.{enough}
+use Rattle.procedure.proofs.InverseTables.{inverse-within, entry-inverse}
 use Rattle.cascades.specs.Cascades.{ran, undoing, Cascade}
 use Rattle.cascades.proofs.Undone.{undone}
 use Rattle.synthesis.specs.Synthesis.{gateFor, synthesized, bound}

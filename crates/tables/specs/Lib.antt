@@ -1,4 +1,3 @@
 pub mod Tables
 pub mod Permutations
 pub mod Inner
-pub mod Answers

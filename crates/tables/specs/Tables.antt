@@ -5,7 +5,13 @@ use mathlib.Core.List.{List, []}
 use lib.Dec.{eqb, leb, ltb}
 use lib.ListN.{length, getD}
 use Rattle.ranges.specs.Ranges.{some, first}
-use Rattle.card.specs.Card.{Answer, Answer.accepted, refusing, onLines}
+use Rattle.card.specs.Card.{Answer, Answer.accepted, Answer.refused, refusing, onLines}
+use Rattle.tables.specs.declared.Checked.{Checked}
+
+-- the document's number and place for each case of the answer
+abbrev pub checkedAs : Checked → Answer
+checkedAs Checked.Accepted = accepted []
+checkedAs (Checked.Refused k p) = refused k p
 
 -- entry i is no pattern: it is the number of patterns or more
 unfoldable pub tooLarge : ℕ → List ℕ → ℕ → Bool

@@ -4,9 +4,8 @@ ghost use mathlib.Core.List.{[]};
 ghost use Prim.Native.Nat.{_^_, _≤_};
 ghost use lib.ListN.{length, take};
 ghost use Rattle.card.specs.Card.{Answer.accepted};
-ghost use Rattle.tables.specs.Tables.{onTable, checkTableAnswer};
+ghost use Rattle.tables.specs.Tables.{onTable, checkTableAnswer, checkedAs};
 ghost use Rattle.tables.specs.Inner.Inverses.{Inverted};
-ghost use Rattle.tables.specs.Answers.{checkedAs};
 
 mod entries;
 

@@ -16,7 +16,7 @@ use Rattle.ranges.proofs.Stores.{getD-sets, getD-sets-below, getD-sets-above}
 use Rattle.ranges.proofs.Triples.{triple-at, beq-same}
 use Rattle.digits.specs.Digits.{digit}
 use Rattle.digits.proofs.Digits.{digit-lt, digit-put-same, digit-put-other}
-use Rattle.digits.proofs.Three.{three}
+use Rattle.digits.proofs.ThreeCases.{three}
 use Rattle.gates.specs.declared.Gate.{Gate}
 use Rattle.gates.specs.Gates.{act, inverseOp, holds, firesOn, applied}
 use Rattle.gates.specs.Inner.Firing.{fires}

@@ -13,7 +13,7 @@ use Rattle.digits.specs.Digits.{digit, pack}
 use Rattle.digits.proofs.Digits.{digit-lt}
 use Rattle.digits.proofs.Packs.{pack-digits}
 use Rattle.digits.proofs.Sizes.{patterns-most}
-use Rattle.digits.proofs.Three.{three}
+use Rattle.digits.proofs.ThreeCases.{three}
 use Rattle.gates.specs.declared.Gate.{Gate}
 use Rattle.gates.specs.Gates.{holds, IsGate}
 use Rattle.cascades.specs.Cascades.{ran, tableFor, tableOf}

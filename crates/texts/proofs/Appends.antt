@@ -23,9 +23,9 @@ use Rattle.card.proofs.Cards.{lines-are}
 use Rattle.cascades.specs.Inner.Checked.{Whole}
 use Rattle.texts.specs.Texts.{ascii, width, decimal, joined}
 use Rattle.texts.specs.GateTexts.{lineText, controlText}
-use Rattle.texts.specs.Inner.Stores.{Appended}
+use Rattle.texts.specs.Inner.StoredTexts.{Appended}
 use Rattle.texts.specs.Inner.Names.{nameSize, nameIn, namesFit}
-use Rattle.texts.proofs.Parts.{joined-snoc}
+use Rattle.texts.proofs.TextParts.{joined-snoc}
 use Rattle.texts.proofs.Names.{name-few, name-long, name-begins}
 
 -- ---- texts stored one behind the other

@@ -1,6 +1,6 @@
 pub mod Decimals
 pub mod Writes
-pub mod Parts
+pub mod TextParts
 pub mod Names
 pub mod GateLengths
 pub mod Appends

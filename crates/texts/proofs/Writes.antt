@@ -7,7 +7,7 @@ use native.Mathlib.Omega.{arith}
 use lib.ListN.{length, set, length-append}
 use lib.Seq.{sets, length-sets}
 use Rattle.ranges.proofs.Stores.{sets-append}
-use Rattle.texts.specs.Inner.Stores.{Stored}
+use Rattle.texts.specs.Inner.StoredTexts.{Stored}
 
 -- the text goes to place at of room₀; what is left of it goes to place to of room
 pub record Writing (room₀ : List ℕ) (at : ℕ) (text room : List ℕ) (to : ℕ) (left : List ℕ) : Type 0 where

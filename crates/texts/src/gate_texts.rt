@@ -6,7 +6,7 @@ ghost use lib.ListN.{length};
 ghost use Rattle.gates.specs.Inner.Words.{gateOf, GateWord};
 ghost use Rattle.cascades.specs.Cascades.{gatesOf};
 ghost use Rattle.texts.specs.GateTexts.{gateText, gateTexts};
-ghost use Rattle.texts.specs.Inner.Stores.{Stored};
+ghost use Rattle.texts.specs.Inner.StoredTexts.{Stored};
 ghost use Rattle.texts.specs.Inner.Names.{nameIn, namesFit, Printable};
 use super::laying;
 use super::storing;

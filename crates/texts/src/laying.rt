@@ -9,7 +9,7 @@ ghost use Rattle.ranges.specs.Ranges.{span};
 ghost use Rattle.gates.specs.Inner.Words.{gateOf, GateWord};
 ghost use Rattle.texts.specs.Texts.{joined};
 ghost use Rattle.texts.specs.GateTexts.{lineText, controlText, gateText};
-ghost use Rattle.texts.specs.Inner.Stores.{Appended};
+ghost use Rattle.texts.specs.Inner.StoredTexts.{Appended};
 ghost use Rattle.texts.specs.Inner.Names.{nameIn, namesFit};
 use gates::words;
 

@@ -3,7 +3,7 @@ ghost use mathlib.Core.Path.{_≡_};
 ghost use Prim.Native.Nat.{_+_, _≤_};
 ghost use lib.ListN.{length};
 ghost use Rattle.texts.specs.Texts.{width, decimal};
-ghost use Rattle.texts.specs.Inner.Stores.{Stored};
+ghost use Rattle.texts.specs.Inner.StoredTexts.{Stored};
 
 // How many digits x has.
 pub fn size_decimal(x: usize) -> usize

@@ -3,7 +3,7 @@ ghost use mathlib.Core.List.{_++_};
 ghost use Prim.Native.Nat.{_+_, _≤_};
 ghost use lib.ListN.{length};
 ghost use Rattle.texts.specs.Texts.{decimal};
-ghost use Rattle.texts.specs.Inner.Stores.{Stored};
+ghost use Rattle.texts.specs.Inner.StoredTexts.{Stored};
 use super::numbers;
 
 // The bytes of a text, stored from a place on.

@@ -28,7 +28,7 @@ use Rattle.remembering.specs.Inner.Rows.{Quiet, Clear, Stops, RowsKnown, NoPair
 use Rattle.remembering.proofs.Gaps.{rank-all, rank-le, rank-mono, rank-rises, rank-lt, gate-ungapped, Standing, stands-at, rank-before, ungapped-set, ungapped-gone, gate-real, gap-passed, gap-unfit}
 use Rattle.remembering.proofs.Buffers.{gate-either, gap-either}
 use Rattle.remembering.proofs.RowPairs.{row, row-ends, row-stops, row-fits, row-hits}
-use Rattle.tidying.specs.Inner.Searches.{PairAt, leftBy}
+use Rattle.tidying.specs.Inner.PairSearches.{PairAt, leftBy}
 
 -- ---- rows
 

@@ -16,18 +16,17 @@ use Rattle.gates.specs.declared.Gate.{Gate}
 use Rattle.gates.specs.Gates.{IsGate}
 use Rattle.cascades.specs.Cascades.{records, gatesOf, bytesOf}
 use Rattle.cascades.proofs.Cascades.{gates-count}
-use Rattle.rules.specs.Tidying.{firstJ, firstI, ruled, untidy, step, Outcome, gatesAndControls, tidied}
+use Rattle.rules.specs.Tidying.{firstJ, firstI, ruled, untidy, step, Outcome, gatesAndControls, tidied, afterSteps}
 use Rattle.rules.proofs.Weights.{control-count-le}
 use Rattle.rules.proofs.TidySteps.{stepped-gates-and-controls, step-stepped}
 use Rattle.rules.proofs.Endings.{after-none, after-one-more, one-answer, tidied-procedure}
-use Rattle.rules.specs.Tidying.{afterSteps}
 use Rattle.remembering.specs.Inner.Buffers.{gatesIn, isGap, ungapped, rank, BufferHolds}
 use Rattle.remembering.specs.Inner.Rows.{ReachBounds}
 use Rattle.remembering.specs.Inner.Views.{StretchesMarked}
 use Rattle.remembering.proofs.Gaps.{ungapped-all, rank-lt, rank-all, gate-real}
 use Rattle.remembering.proofs.Buffers.{length-gates, holds-list, holds-bytes}
 use Rattle.remembering.proofs.Clearances.{known-start}
-use Rattle.tidying.specs.Inner.Searches.{GateRecords, Remembers, TidiedIn, PairAt}
+use Rattle.tidying.specs.Inner.PairSearches.{GateRecords, Remembers, TidiedIn, PairAt}
 use Rattle.tidying.proofs.Firsts.{First, first-at}
 
 -- a list of m gates has at most 7 m gates and controls

@@ -1,1 +1,1 @@
-pub mod Searches
+pub mod PairSearches

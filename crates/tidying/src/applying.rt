@@ -6,8 +6,8 @@ ghost use Rattle.gates.specs.Inner.Words.{gateOf, GateWord};
 ghost use Rattle.rules.specs.Tidying.{ruled};
 ghost use Rattle.rules.specs.Inner.NamedRules.{ruleFor};
 ghost use Rattle.remembering.specs.Inner.Buffers.{gatesIn, gap, ungapped, rank};
-ghost use Rattle.remembering.specs.Inner.Changes.{ChangeFits};
-ghost use Rattle.tidying.specs.Inner.Searches.{Remembers, PairAt, leftBy};
+ghost use Rattle.remembering.specs.Inner.GateChanges.{ChangeFits};
+ghost use Rattle.tidying.specs.Inner.PairSearches.{Remembers, PairAt, leftBy};
 use super::pairs::Pair;
 use gates::Gate;
 use remembering::changes::Change;
@@ -76,8 +76,8 @@ pub fn apply_rule(
     ensures { λ _. ⌜ ungapped (gatesIn (now (b .exit)) m) ≡ ruled (ungapped (gatesIn (now (b .entry)) m)) (rank (gatesIn (now (b .entry)) m) (pair .i)) (rank (gatesIn (now (b .entry)) m) (pair .j)) ⌝ }
 {
     let left = leave_pair(
-        remembering::views::read_word(b, m, pair.i),
-        remembering::views::read_word(b, m, pair.j),
+        remembering::views::row_word(b, m, pair.i),
+        remembering::views::row_word(b, m, pair.j),
     );
     let late = remembering::changes::plan_change(m, pair.j, left.second, pair.i);
     let low = replace(b, far, reach, marks, late);

@@ -1,7 +1,7 @@
 // Tidying a cascade where it lies: the first open pair that fits a rule, again and again, until none fits.
 ghost use mathlib.Core.Path.{_≡_};
 ghost use Rattle.rules.specs.Tidying.{tidyAnswer, tidyBuffer};
-ghost use Rattle.tidying.specs.Answers.{tidiedAs};
+ghost use Rattle.tidying.specs.TidyAnswers.{tidiedAs};
 
 mod applying;
 mod pairs;

@@ -4,7 +4,7 @@ ghost use Prim.Native.Nat.{_<_};
 ghost use Rattle.rules.specs.Rules.{fits};
 ghost use Rattle.rules.specs.Tidying.{gate};
 ghost use Rattle.remembering.specs.Inner.Buffers.{gatesIn, BufferHolds};
-ghost use Rattle.tidying.specs.Inner.Searches.{Remembers, PairAt};
+ghost use Rattle.tidying.specs.Inner.PairSearches.{Remembers, PairAt};
 
 // Two places of a cascade.
 pub struct Pair {
@@ -18,8 +18,8 @@ fn fits_places(b: &[u8], m: usize, i: usize, j: usize) -> bool
     ensures { λ r. ⌜ r ≡ fits (gate (gatesIn (now (b .entry)) m) i) (gate (gatesIn (now (b .entry)) m) j) ⌝ }
 {
     rules::fitting::fits_pair(
-        remembering::views::read_word(b, m, i),
-        remembering::views::read_word(b, m, j),
+        remembering::views::row_word(b, m, i),
+        remembering::views::row_word(b, m, j),
     )
 }
 
@@ -39,10 +39,10 @@ pub fn find_pair(
     let mut i = remembering::rows::next_row(far, m, from);
     let mut j = i;
     'rows: while i < m {
-        let g = remembering::views::read_word(b, m, i);
+        let g = remembering::views::row_word(b, m, i);
         j = far[i] as usize;
         while j < m {
-            let h = remembering::views::read_word(b, m, j);
+            let h = remembering::views::row_word(b, m, j);
             if !rules::passing::may_change(g, h) {
                 break;
             }

@@ -1,5 +1,5 @@
 // Steps repeated until none fits.
-ghost use Rattle.tidying.specs.Inner.Searches.{GateRecords, MemoryRoom, TidiedIn};
+ghost use Rattle.tidying.specs.Inner.PairSearches.{GateRecords, MemoryRoom, TidiedIn};
 
 // What is left of m gates, and how many steps it took.
 pub struct Done {

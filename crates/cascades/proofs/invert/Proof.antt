@@ -12,8 +12,7 @@ use Rattle.cascades.specs.Answers.{countedAs, invertAnswer, invertRoom}
 use Rattle.cascades.proofs.Cascades.{gates-count}
 use Rattle.cascades.proofs.Undone.{length-undoing}
 use Rattle.cascades.proofs.Stored.{length-bytes}
-use Rattle.cascades.proofs.Checks.{passed}
-use Rattle.cascades.proofs.Checks.{check-whole, check-count, check-refused}
+use Rattle.cascades.proofs.Checks.{passed, check-whole, check-count, check-refused}
 use borrow.Author.Needs.{needs}
 use Rattle.cascades.proofs.invert.Statement.{statement}
 use Rattle.cascades.proofs.invert.Tie as tie

@@ -6,8 +6,7 @@ use borrow.Author.Tests.{not-true, not-false, le-leb, lt-leb}
 use Rattle.card.specs.Card.{linesOk}
 use Rattle.card.proofs.Cards.{no-lines, good-lines, lines-are, refusing-yes, refusing-no}
 use Rattle.cascades.specs.Answers.{countedAs, onCascade, runAnswer}
-use Rattle.cascades.proofs.Checks.{passed}
-use Rattle.cascades.proofs.Checks.{check-whole, check-refused}
+use Rattle.cascades.proofs.Checks.{passed, check-whole, check-refused}
 use borrow.Author.Needs.{needs}
 use Rattle.cascades.proofs.run.Statement.{statement}
 use Rattle.cascades.proofs.run.Tie as tie

@@ -11,8 +11,7 @@ use Rattle.card.proofs.Cards.{refusing-yes, refusing-no, refused-both, accepted
 use Rattle.cascades.specs.Cascades.{records, gatesOf}
 use Rattle.cascades.specs.Inner.Checked.{Whole}
 use Rattle.cascades.specs.Answers.{pricedAs, priceAnswer}
-use Rattle.cascades.proofs.Checks.{passed}
-use Rattle.cascades.proofs.Checks.{price-whole, price-value, price-refused}
+use Rattle.cascades.proofs.Checks.{passed, price-whole, price-value, price-refused}
 use Rattle.listings.specs.Listings.{listingWith, listingText, listingAnswer, listingRoom}
 use borrow.Author.Needs.{needs}
 use Rattle.listings.proofs.listing.Statement.{statement}

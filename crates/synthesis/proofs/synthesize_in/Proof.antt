@@ -10,9 +10,8 @@ use native.Mathlib.Omega.{arith}
 use Rattle.digits.proofs.Sizes.{patterns-most}
 use Rattle.card.specs.Card.{Answer.accepted}
 use Rattle.card.proofs.Cards.{lines-are}
-use Rattle.tables.specs.Tables.{checkTableAnswer}
+use Rattle.tables.specs.Tables.{checkTableAnswer, checkedAs}
 use Rattle.tables.specs.Inner.Inverses.{Inverted}
-use Rattle.tables.specs.Answers.{checkedAs}
 use Rattle.tables.proofs.Accepts.{accepted-permutation}
 use Rattle.synthesis.proofs.Synthesis.{bound-most, synthesized-bound}
 use Rattle.synthesis.proofs.Pairings.{present}

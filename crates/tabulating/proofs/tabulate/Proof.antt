@@ -11,8 +11,7 @@ use Rattle.card.proofs.Cards.{lines-are, refusing-yes, refusing-no, refused-bot
 use Rattle.cascades.specs.Cascades.{gatesOf, tableFor, tableOf}
 use Rattle.cascades.specs.Inner.Checked.{Whole}
 use Rattle.cascades.specs.Answers.{countedAs}
-use Rattle.cascades.proofs.Checks.{passed}
-use Rattle.cascades.proofs.Checks.{check-whole, check-count, check-refused}
+use Rattle.cascades.proofs.Checks.{passed, check-whole, check-count, check-refused}
 use Rattle.tabulating.specs.Tabulating.{tabulateAnswer, tabulateRoom}
 use borrow.Author.Needs.{needs}
 use Rattle.tabulating.proofs.tabulate.Statement.{statement}

@@ -7,8 +7,7 @@ use Rattle.card.proofs.Cards.{refused-both, accepted-both}
 use Rattle.cascades.specs.Cascades.{records}
 use Rattle.cascades.specs.Inner.Checked.{Whole}
 use Rattle.cascades.specs.Answers.{countedAs}
-use Rattle.cascades.proofs.Checks.{passed}
-use Rattle.cascades.proofs.Checks.{check-whole, check-count, check-refused}
+use Rattle.cascades.proofs.Checks.{passed, check-whole, check-count, check-refused}
 use Rattle.rules.specs.Tidying.{tidyAnswer, tidyBuffer}
 use Rattle.remembering.proofs.Buffers.{holds-start, gates-start}
 use borrow.Author.Needs.{needs}

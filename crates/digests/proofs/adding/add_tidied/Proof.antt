@@ -5,7 +5,7 @@ use Prim.Native.Nat.{ℕ, _*_, _≤_}
 use lib.ListN.{length}
 use lib.Seq.{length-take-le}
 use native.Mathlib.Omega.{arith}
-use Rattle.tidying.specs.Answers.{tidiedAs}
+use Rattle.tidying.specs.TidyAnswers.{tidiedAs}
 use Rattle.digests.proofs.Fits.{tidied-fits}
 use borrow.Author.Needs.{needs}
 use Rattle.digests.proofs.adding.add_tidied.Statement.{statement}

@@ -1,6 +1,6 @@
 -- `exports::answers::checked` meets its contract: the numbers of each case are those that `checkedAs` names. Assumes nothing.
 use mathlib.Core.Path.{ap, sym, _∙_}
-use Rattle.tables.specs.Answers.{checkedAs}
+use Rattle.tables.specs.Tables.{checkedAs}
 use Rattle.exports.specs.Numbers.{numbers}
 use borrow.Author.Needs.{needs}
 use Rattle.exports.proofs.answers.checked.Statement.{statement}

@@ -1,6 +1,6 @@
 -- `exports::answers::tidied` meets its contract: the numbers of each case are those that `tidiedAs` names. Assumes nothing.
 use mathlib.Core.Path.{ap, sym, _∙_}
-use Rattle.tidying.specs.Answers.{tidiedAs}
+use Rattle.tidying.specs.TidyAnswers.{tidiedAs}
 use Rattle.exports.specs.Numbers.{numbers}
 use borrow.Author.Needs.{needs}
 use Rattle.exports.proofs.answers.tidied.Statement.{statement}

@@ -1,6 +1,6 @@
 -- `remembering::buffer::move_record` meets its contract: the record is read before it is stored. Assumes nothing.
 use native.Mathlib.Omega.{arith}
-use Rattle.remembering.proofs.Words.{moved-word}
+use Rattle.remembering.proofs.RowWords.{moved-word}
 use borrow.Author.Needs.{needs}
 use Rattle.remembering.proofs.buffer.move_record.Statement.{statement}
 use Rattle.remembering.proofs.buffer.move_record.Tie as tie

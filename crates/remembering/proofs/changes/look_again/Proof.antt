@@ -11,7 +11,7 @@ use Rattle.rules.specs.Rules.{fits}
 use Rattle.remembering.specs.Inner.Buffers.{gatesIn}
 use Rattle.remembering.specs.Inner.Rows.{settledMark, RowKnown}
 use Rattle.remembering.proofs.Buffers.{gates-inside}
-use Rattle.remembering.proofs.Words.{gate-word, word-known}
+use Rattle.remembering.proofs.RowWords.{gate-word, word-known}
 use Rattle.remembering.proofs.Clearances.{again-near, again-quiet, again-cut}
 use borrow.Author.Needs.{needs}
 use Rattle.remembering.proofs.changes.look_again.Statement.{statement}
@@ -47,14 +47,14 @@ cast-result c = omega (arith, small (c .before .before .before .before .before .
 returns-2 : tie.Need-returns-2
 returns-2 c = cut (c .before .before .before .before .before .before) (omega (arith, c .before .if2 .taken))
 
-read-word-requires : tie.Need-read-word-requires
-read-word-requires c κs = (c .before .before .before .before .before .pre .0 .holds, omega (arith, c .before .before .before .before .before .pre .1, c .before .before .before .before .before .pre .0 .inside))
+row-word-requires : tie.Need-row-word-requires
+row-word-requires c κs = (c .before .before .before .before .before .pre .0 .holds, omega (arith, c .before .before .before .before .before .pre .1, c .before .before .before .before .before .pre .0 .inside))
 
 word-of-requires : tie.Need-word-of-requires
 word-of-requires c κs = search needs
 
 may-change-requires : tie.Need-may-change-requires
-may-change-requires c κs = (c .before .read-word .ensures .0, written c)
+may-change-requires c κs = (c .before .row-word .ensures .0, written c)
 
 cast-result-2 : tie.Need-cast-result-2
 cast-result-2 c = omega (arith, small (c .before .before .before .before .before .before .before .before .before .before))
@@ -63,7 +63,7 @@ returns-3 : tie.Need-returns-3
 returns-3 c = cut (c .before .before .before .before .before .before .before .before .before .before) (omega (arith, c .before .before .before .before .before .before .before .if1 .left))
 
 fits-pair-requires : tie.Need-fits-pair-requires
-fits-pair-requires c κs = (c .before .before .before .read-word .ensures .0, written (c .before .before))
+fits-pair-requires c κs = (c .before .before .before .row-word .ensures .0, written (c .before .before))
 
 cast-result-3 : tie.Need-cast-result-3
 cast-result-3 c = omega (arith, small (c .before .before .before .before .before .before .before .before .before .before .before .before))
@@ -74,8 +74,8 @@ returns-4 c = cut (c .before .before .before .before .before .before .before .be
 returns-5 : tie.Need-returns-5
 returns-5 c =
     again-quiet _ _ _ _ _ (inside (c .before .before .before .before .before .before .before .before .before .before .before)) (λ e. omega (arith, c .before .before .before .before .before .before .before .before .before .before .before .pre .1)) (c .before .before .before .before .before .before .before .before .before .before .before .pre .2) (c .before .before .before .before .before .before .before .before .before .before .before .pre .1) (small (c .before .before .before .before .before .before .before .before .before .before .before)) (omega (arith, c .before .before .before .before .before .before .before .before .if1 .left, c .before .before .before .before .before .before .if2 .left))
-    (ap₂ fits (sym (c .before .before .before .before .before .read-word .ensures .1)) (sym (same (c .before .before .before .before))) ∙ sym (c .before .fits-pair .ensures) ∙ c .if4 .left)
-    (ap₂ mayChange (sym (c .before .before .before .before .before .read-word .ensures .1)) (sym (same (c .before .before .before .before))) ∙ sym (c .before .before .before .may-change .ensures) ∙ not-false _ (c .before .before .if3 .left))
+    (ap₂ fits (sym (c .before .before .before .before .before .row-word .ensures .1)) (sym (same (c .before .before .before .before))) ∙ sym (c .before .fits-pair .ensures) ∙ c .if4 .left)
+    (ap₂ mayChange (sym (c .before .before .before .before .before .row-word .ensures .1)) (sym (same (c .before .before .before .before))) ∙ sym (c .before .before .before .may-change .ensures) ∙ not-false _ (c .before .before .if3 .left))
 
 pub look-again-spec : {M : Type 1} → statement M
 look-again-spec =
@@ -85,7 +85,7 @@ look-again-spec =
     returns
     cast-result
     returns-2
-    read-word-requires
+    row-word-requires
     word-of-requires
     may-change-requires
     cast-result-2

@@ -8,7 +8,7 @@ use Rattle.gates.specs.declared.Gate.{Gate}
 use Rattle.remembering.specs.declared.changes.Change.{Change}
 use Rattle.remembering.specs.Inner.Buffers.{gatesIn}
 use Rattle.remembering.specs.Inner.Rows.{RowKnown}
-use Rattle.remembering.specs.Inner.Changes.{LookedAgain}
+use Rattle.remembering.specs.Inner.GateChanges.{LookedAgain}
 use Rattle.remembering.proofs.Looks.{again-start, again-next, again-wide}
 use borrow.Author.Needs.{needs}
 use Rattle.remembering.proofs.changes.look_from.Statement.{statement}

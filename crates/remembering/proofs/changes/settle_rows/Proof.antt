@@ -10,7 +10,7 @@ use Rattle.gates.specs.declared.Gate.{Gate}
 use Rattle.remembering.specs.declared.changes.Change.{Change}
 use Rattle.remembering.specs.Inner.Buffers.{gatesIn, isGap}
 use Rattle.remembering.specs.Inner.Rows.{settledMark}
-use Rattle.remembering.specs.Inner.Changes.{LookFits}
+use Rattle.remembering.specs.Inner.GateChanges.{LookFits}
 use Rattle.remembering.proofs.Buffers.{gates-inside}
 use Rattle.remembering.proofs.Looks.{again-end, Looking, looking-start, looking-fits, looking-next}
 use Rattle.remembering.proofs.Reaches.{reach-but, no-pair-set}

@@ -40,7 +40,7 @@ module _ (c : tie.Start Inv-loop μ-loop) where
 
 module _ (c : tie.After-see-word Inv-loop μ-loop) where
   seen : (c .see-word .result .types ≡ againstOf (gate (gatesIn (c .before .before .before .before .before .before .args .b .now) (c .before .before .before .before .before .before .args .m)) (c .before .before .before .before .before .before .args .i))) × (c .see-word .result .kinds ≡ kindOf (gate (gatesIn (c .before .before .before .before .before .before .args .b .now) (c .before .before .before .before .before .before .args .m)) (c .before .before .before .before .before .before .args .i)))
-  seen = (rw (c .before .read-word .ensures .1) at (c .see-word .ensures)) (c .before .before .before .before .before .before .pre .1)
+  seen = (rw (c .before .row-word .ensures .1) at (c .see-word .ensures)) (c .before .before .before .before .before .before .pre .1)
 
 module _ (c : tie.At-loop Inv-loop μ-loop) where
   few : 16 * c .loop .s ≤ 8000
@@ -55,11 +55,11 @@ returns c = (c .before .before .before .pre .0 .marked, omega arith, c .before .
 returns-2 : tie.Need-returns-2 Inv-loop μ-loop
 returns-2 c = (c .before .before .before .before .pre .0 .marked, omega arith, c .before .before .before .before .pre .2)
 
-read-word-requires : tie.Need-read-word-requires Inv-loop μ-loop
-read-word-requires c κs = (c .before .before .before .before .pre .0 .holds, omega (arith, count (c .before .before .before .before), row-inside (c .before .before .before .before)))
+row-word-requires : tie.Need-row-word-requires Inv-loop μ-loop
+row-word-requires c κs = (c .before .before .before .before .pre .0 .holds, omega (arith, count (c .before .before .before .before), row-inside (c .before .before .before .before)))
 
 see-word-requires : tie.Need-see-word-requires Inv-loop μ-loop
-see-word-requires c κs = c .read-word .ensures .0
+see-word-requires c κs = c .row-word .ensures .0
 
 loop-holds : tie.Need-loop-holds Inv-loop μ-loop
 loop-holds c =
@@ -123,7 +123,7 @@ pass-stretches-spec =
     add-if1
     returns
     returns-2
-    read-word-requires
+    row-word-requires
     see-word-requires
     loop-holds
     mul-loop

@@ -2,7 +2,7 @@
 use borrow.Author.Tests.{eq-eqb}
 use Rattle.ranges.proofs.Bools.{clash}
 use Rattle.remembering.specs.Inner.Buffers.{isGap}
-use Rattle.remembering.proofs.Words.{gate-word, word-known}
+use Rattle.remembering.proofs.RowWords.{gate-word, word-known}
 use borrow.Author.Needs.{needs}
 use Rattle.remembering.proofs.views.see_gate.Statement.{statement}
 use Rattle.remembering.proofs.views.see_gate.Tie as tie

@@ -24,17 +24,17 @@ next x k = omega arith
 loop-holds : tie.Need-loop-holds Inv-loop μ-loop
 loop-holds c = (rw (add-zero (c .before .args .x)) (passed-start _ _), omega arith)
 
-add-read-word : tie.Need-add-read-word Inv-loop μ-loop
-add-read-word c = omega (arith, c .loop-test .taken, c .before .before .before .pre .1, c .before .before .before .pre .0 .room)
+add-row-word : tie.Need-add-row-word Inv-loop μ-loop
+add-row-word c = omega (arith, c .loop-test .taken, c .before .before .before .pre .1, c .before .before .before .pre .0 .room)
 
-read-word-requires : tie.Need-read-word-requires Inv-loop μ-loop
-read-word-requires c κs = (c .before .before .before .pre .0, omega (arith, c .loop-test .taken, c .before .before .before .pre .1))
+row-word-requires : tie.Need-row-word-requires Inv-loop μ-loop
+row-word-requires c κs = (c .before .before .before .pre .0, omega (arith, c .loop-test .taken, c .before .before .before .pre .1))
 
 view-requires : tie.Need-view-requires Inv-loop μ-loop
-view-requires c κs = c .read-word .ensures .0
+view-requires c κs = c .row-word .ensures .0
 
 kind-requires : tie.Need-kind-requires Inv-loop μ-loop
-kind-requires c κs = c .before .read-word .ensures .0
+kind-requires c κs = c .before .row-word .ensures .0
 
 add-k : tie.Need-add-k Inv-loop μ-loop
 add-k c = search needs
@@ -46,7 +46,7 @@ loop-again : tie.Need-loop-again Inv-loop μ-loop
 loop-again c =
     let inside : c .before .before .before .before .before .before .args .x + c .before .before .before .before .loop .k < length (gatesIn (c .before .before .before .before .before .before .args .b .now) (c .before .before .before .before .before .before .args .m)) =
     rw (length-gates (c .before .before .before .before .before .before .args .b .now) (c .before .before .before .before .before .before .args .m)) (omega (arith, c .before .before .before .loop-test .taken, c .before .before .before .before .before .before .pre .1)) in
-    let same = c .before .before .read-word .ensures .1 in (
+    let same = c .before .before .row-word .ensures .1 in (
       rw (next (c .before .before .before .before .before .before .args .x) (c .before .before .before .before .loop .k), c .before .view .ensures ∙ ap viewOf same, c .kind .ensures ∙ ap kindOf same)
           (passed-next _ _ _ _ _ (c .before .before .before .before .before .before .pre .0 .gates) inside (c .before .before .before .before .loop .inv .0)),
       omega (arith, c .before .before .before .loop-test .taken),
@@ -64,8 +64,8 @@ stretch-of-spec =
     Inv-loop
     μ-loop
     loop-holds
-    add-read-word
-    read-word-requires
+    add-row-word
+    row-word-requires
     view-requires
     kind-requires
     add-k

@@ -13,7 +13,7 @@ use Rattle.gates.proofs.Records.{gate-at}
 use Rattle.cascades.specs.Cascades.{gateIn, records, gatesOf}
 use Rattle.texts.specs.GateTexts.{gateText, gateTexts}
 use Rattle.texts.specs.Inner.Names.{nameIn, Printable}
-use Rattle.texts.proofs.Parts.{gates-more, gates-end}
+use Rattle.texts.proofs.TextParts.{gates-more, gates-end}
 use Rattle.texts.proofs.GateLengths.{gate-most}
 use Rattle.texts.proofs.Appends.{word-known}
 use Rattle.texts.proofs.Names.{name-short}

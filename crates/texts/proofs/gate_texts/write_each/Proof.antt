@@ -11,7 +11,7 @@ use Rattle.gates.proofs.Bytes.{word-gate}
 use Rattle.cascades.specs.Cascades.{gateIn, records, gatesOf}
 use Rattle.texts.specs.GateTexts.{gateText, gateTexts}
 use Rattle.texts.specs.Inner.Names.{nameIn}
-use Rattle.texts.proofs.Parts.{gates-more, gates-end}
+use Rattle.texts.proofs.TextParts.{gates-more, gates-end}
 use Rattle.texts.proofs.Appends.{word-known}
 use Rattle.texts.proofs.Writes.{Writing, writing-start, writing-next, writing-end, piece-fits}
 use borrow.Author.Needs.{needs}

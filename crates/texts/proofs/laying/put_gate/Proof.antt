@@ -8,9 +8,9 @@ use Rattle.ranges.specs.Ranges.{span}
 use Rattle.gates.specs.Inner.Words.{gateOf}
 use Rattle.texts.specs.Texts.{joined}
 use Rattle.texts.specs.GateTexts.{lineText, controlText, gateText}
-use Rattle.texts.specs.Inner.Stores.{Appended}
+use Rattle.texts.specs.Inner.StoredTexts.{Appended}
 use Rattle.texts.specs.Inner.Names.{nameIn}
-use Rattle.texts.proofs.Parts.{word-parts}
+use Rattle.texts.proofs.TextParts.{word-parts}
 use Rattle.texts.proofs.Appends.{append-next, append-byte}
 use borrow.Author.Needs.{needs}
 use Rattle.texts.proofs.laying.put_gate.Statement.{statement}

@@ -12,7 +12,7 @@ use Rattle.rules.proofs.FittingPairs.{chosen}
 use Rattle.remembering.specs.Inner.Buffers.{gatesIn, GateOrGap}
 use Rattle.remembering.proofs.Buffers.{length-gates, gates-inside}
 use Rattle.remembering.proofs.Looks.{planned-fits}
-use Rattle.tidying.specs.Inner.Searches.{leftBy}
+use Rattle.tidying.specs.Inner.PairSearches.{leftBy}
 use Rattle.tidying.proofs.Firsts.{left-stands, left-ruled}
 use borrow.Author.Needs.{needs}
 use Rattle.tidying.proofs.applying.apply_rule.Statement.{statement}
@@ -40,7 +40,7 @@ module _ (s : tie.Start) where
 
 module _ (c : tie.After-leave-pair) where
   left-is : c .leave-pair .result ≡ left (c .before .before .before .before .before .before .before .before .before)
-  left-is = c .leave-pair .ensures ∙ ap₂ (λ (g h : Gate). leftBy (ruleFor g h) g h) (c .before .before .before .read-word .ensures .1) (c .before .read-word2 .ensures .1)
+  left-is = c .leave-pair .ensures ∙ ap₂ (λ (g h : Gate). leftBy (ruleFor g h) g h) (c .before .before .before .row-word .ensures .1) (c .before .row-word2 .ensures .1)
 
   first-stands : GateOrGap (c .leave-pair .result .first)
   first-stands = rw left-is (stands (c .before .before .before .before .before .before .before .before .before) .0)
@@ -48,14 +48,14 @@ module _ (c : tie.After-leave-pair) where
   second-stands : GateOrGap (c .leave-pair .result .second)
   second-stands = rw left-is (stands (c .before .before .before .before .before .before .before .before .before) .1)
 
-read-word-requires : tie.Need-read-word-requires
-read-word-requires c κs = (c .before .before .before .before .before .pre .0 .holds, c .before .before .before .before .before .pre .1)
+row-word-requires : tie.Need-row-word-requires
+row-word-requires c κs = (c .before .before .before .before .before .pre .0 .holds, c .before .before .before .before .before .pre .1)
 
-read-word-requires-2 : tie.Need-read-word-requires-2
-read-word-requires-2 c κs = (c .before .before .before .before .before .before .before .pre .0 .holds, j-inside (c .before .before .before .before .before .before .before))
+row-word-requires-2 : tie.Need-row-word-requires-2
+row-word-requires-2 c κs = (c .before .before .before .before .before .before .before .pre .0 .holds, j-inside (c .before .before .before .before .before .before .before))
 
 leave-pair-requires : tie.Need-leave-pair-requires
-leave-pair-requires c κs = (c .before .before .read-word .ensures .0, c .read-word2 .ensures .0)
+leave-pair-requires c κs = (c .before .before .row-word .ensures .0, c .row-word2 .ensures .0)
 
 plan-change-requires : tie.Need-plan-change-requires
 plan-change-requires c κs = second-stands c
@@ -96,8 +96,8 @@ pub apply-rule-spec : {M : Type 1} → statement M
 apply-rule-spec =
     tie.close
     (tie.spec
-    read-word-requires
-    read-word-requires-2
+    row-word-requires
+    row-word-requires-2
     leave-pair-requires
     plan-change-requires
     replace-requires

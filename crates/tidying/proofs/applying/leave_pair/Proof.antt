@@ -8,7 +8,7 @@ use Rattle.rules.specs.Rules.{loosened, retuned}
 use Rattle.rules.specs.Inner.NamedRules.{ruleFor}
 use Rattle.rules.proofs.FittingPairs.{chosen-reduces}
 use Rattle.rules.proofs.PairWords.{packed}
-use Rattle.tidying.specs.Inner.Searches.{leftBy}
+use Rattle.tidying.specs.Inner.PairSearches.{leftBy}
 use borrow.Author.Needs.{needs}
 use Rattle.tidying.proofs.applying.leave_pair.Statement.{statement}
 use Rattle.tidying.proofs.applying.leave_pair.Tie as tie

@@ -18,7 +18,7 @@ use Rattle.rules.specs.Tidying.{gate}
 use Rattle.remembering.specs.Inner.Buffers.{gatesIn, isGap}
 use Rattle.remembering.specs.Inner.Rows.{settledMark, Clear, Stops, RowsKnown}
 use Rattle.remembering.specs.Inner.Views.{StretchesMarked}
-use Rattle.remembering.specs.Inner.Changes.{MemoryTrue}
+use Rattle.remembering.specs.Inner.GateChanges.{MemoryTrue}
 use Rattle.remembering.proofs.Buffers.{length-gates, gates-inside, holds-gate}
 use Rattle.remembering.proofs.Clearances.{clear-next, row-real, row-clear, known-stops}
 use Rattle.remembering.proofs.Reaches.{reach-but, no-pair-set}
@@ -77,12 +77,12 @@ module _ (c : tie.In-loop Inv-loop μ-loop Inv-rows μ-rows) where
   place-inside : c .before .loop .j < length (gates (c .before .before .before .before .before .before .before .before .before .before .before .before))
   place-inside = gates-inside _ _ _ (c .loop-test .taken)
 
-module _ (c : tie.After-read-word2 Inv-loop μ-loop Inv-rows μ-rows) where
-  first-is : gateOf (c .before .before .before .before .read-word .result) ≡ gate (gates (c .before .before .before .before .before .before .before .before .before .before .before .before .before)) (c .before .before .before .before .before .before .rows .i)
-  first-is = c .before .before .before .before .read-word .ensures .1
+module _ (c : tie.After-row-word2 Inv-loop μ-loop Inv-rows μ-rows) where
+  first-is : gateOf (c .before .before .before .before .row-word .result) ≡ gate (gates (c .before .before .before .before .before .before .before .before .before .before .before .before .before)) (c .before .before .before .before .before .before .rows .i)
+  first-is = c .before .before .before .before .row-word .ensures .1
 
-  second-is : gateOf (c .read-word2 .result) ≡ gate (gates (c .before .before .before .before .before .before .before .before .before .before .before .before .before)) (c .before .before .loop .j)
-  second-is = c .read-word2 .ensures .1
+  second-is : gateOf (c .row-word2 .result) ≡ gate (gates (c .before .before .before .before .before .before .before .before .before .before .before .before .before)) (c .before .before .loop .j)
+  second-is = c .row-word2 .ensures .1
 
 module _ (c : tie.After-may-change Inv-loop μ-loop Inv-rows μ-rows) where
   may-is : mayChange (gate (gates (c .before .before .before .before .before .before .before .before .before .before .before .before .before .before)) (c .before .before .before .before .before .before .before .rows .i)) (gate (gates (c .before .before .before .before .before .before .before .before .before .before .before .before .before .before)) (c .before .before .before .loop .j)) ≡ c .may-change .result
@@ -102,7 +102,7 @@ module _ (c : tie.Left-loop Inv-loop μ-loop Inv-rows μ-rows) where
       record { unfit = λ l. absurd (omega (arith, count (c .before .before .before .before .before .before .before .before .before .before .before .before))); shut = λ l. absurd (omega (arith, count (c .before .before .before .before .before .before .before .before .before .before .before .before))) })
       (λ w.
       let inner : tie.In-loop Inv-loop μ-loop Inv-rows μ-rows = record { before = c .before; loop-test = w .0 } in
-      let pair : tie.After-read-word2 Inv-loop μ-loop Inv-rows μ-rows = record { before = inner; read-word2 = w .1 } in
+      let pair : tie.After-row-word2 Inv-loop μ-loop Inv-rows μ-rows = record { before = inner; row-word2 = w .1 } in
       let may : tie.After-may-change Inv-loop μ-loop Inv-rows μ-rows = record { before = pair; may-change = w .2 } in
       let shut : mayChange (gate (gates (c .before .before .before .before .before .before .before .before .before .before .before .before)) (c .before .before .before .before .before .rows .i)) (gate (gates (c .before .before .before .before .before .before .before .before .before .before .before .before)) (c .before .loop .j)) ≡ false = may-is may ∙ not-true _ (w .3 .taken) in
       record { unfit = λ l. shut-unfit _ _ (row-gate (c .before .before .before .before)) (holds-gate _ _ (c .before .before .before .before .before .before .before .before .before .before .before .before .pre .holds) _ l) shut; shut = λ l. shut })
@@ -128,8 +128,8 @@ rows-holds c =
       marks-len = refl;
     }
 
-read-word-requires : tie.Need-read-word-requires Inv-loop μ-loop Inv-rows μ-rows
-read-word-requires c κs = (c .before .before .before .before .before .before .before .before .pre .holds, c .rows-test .taken)
+row-word-requires : tie.Need-row-word-requires Inv-loop μ-loop Inv-rows μ-rows
+row-word-requires c κs = (c .before .before .before .before .before .before .before .before .pre .holds, c .rows-test .taken)
 
 mul-j : tie.Need-mul-j Inv-loop μ-loop Inv-rows μ-rows
 mul-j c = search needs
@@ -148,11 +148,11 @@ loop-holds c =
       len = refl;
     }
 
-read-word-requires-2 : tie.Need-read-word-requires-2 Inv-loop μ-loop Inv-rows μ-rows
-read-word-requires-2 c κs = (c .before .before .before .before .before .before .before .before .before .before .before .before .pre .holds, c .loop-test .taken)
+row-word-requires-2 : tie.Need-row-word-requires-2 Inv-loop μ-loop Inv-rows μ-rows
+row-word-requires-2 c κs = (c .before .before .before .before .before .before .before .before .before .before .before .before .pre .holds, c .loop-test .taken)
 
 may-change-requires : tie.Need-may-change-requires Inv-loop μ-loop Inv-rows μ-rows
-may-change-requires c κs = (c .before .before .before .before .read-word .ensures .0, c .read-word2 .ensures .0)
+may-change-requires c κs = (c .before .before .before .before .row-word .ensures .0, c .row-word2 .ensures .0)
 
 fits-places-requires : tie.Need-fits-places-requires Inv-loop μ-loop Inv-rows μ-rows
 fits-places-requires c κs = (c .before .before .before .before .before .before .before .before .before .before .before .before .before .before .before .pre .holds, c .before .before .before .before .before .before .before .rows-test .taken, c .before .before .before .loop-test .taken)
@@ -277,12 +277,12 @@ find-pair-spec =
     μ-rows
     next-row-requires
     rows-holds
-    read-word-requires
+    row-word-requires
     mul-j
     slice-read-j
     cast-j
     loop-holds
-    read-word-requires-2
+    row-word-requires-2
     may-change-requires
     fits-places-requires
     add-pass-stretches

@@ -7,8 +7,7 @@ use native.Mathlib.Omega.{arith}
 use lib.ListN.{length}
 use Rattle.cascades.specs.Cascades.{gatesOf}
 use Rattle.cascades.proofs.Cascades.{gates-count}
-use Rattle.rules.specs.Tidying.{gatesAndControls}
-use Rattle.rules.specs.Tidying.{afterSteps}
+use Rattle.rules.specs.Tidying.{gatesAndControls, afterSteps}
 use Rattle.remembering.proofs.Buffers.{length-gates}
 use Rattle.remembering.proofs.Reaches.{reach-start}
 use Rattle.remembering.proofs.Stretches.{marked-start}

@@ -1,4 +1,4 @@
--- `remembering::views::read_word` meets its contract: the word read is that of the gate that stands there. Assumes nothing.
+-- `remembering::views::row_word` meets its contract: the word read is that of the gate that stands there. Assumes nothing.
 use mathlib.Core.Path.{_≡_, sym, ap, _∙_}
 use Prim.Native.Nat.{_*_, _<_}
 use native.Mathlib.Omega.{arith}
@@ -9,8 +9,8 @@ use Rattle.gates.proofs.Bytes.{control-byte, word-gate, operator-word, target-w
 use Rattle.rules.specs.Tidying.{gate}
 use Rattle.remembering.specs.Inner.Buffers.{gatesIn}
 use Rattle.remembering.proofs.Buffers.{length-gates, gate-in, holds-fits, holds-gate, holds-lines}
-use Rattle.remembering.proofs.views.read_word.Statement.{statement}
-use Rattle.remembering.proofs.views.read_word.Tie as tie
+use Rattle.remembering.proofs.views.row_word.Statement.{statement}
+use Rattle.remembering.proofs.views.row_word.Tie as tie
 
 module _ (c : tie.Start) where
   inside : c .args .k < length (gatesIn (c .args .b .now) (c .args .m))
@@ -37,5 +37,5 @@ returns c =
       same,
     )
 
-pub read-word-spec : {M : Type 1} → statement M
-read-word-spec = tie.close (tie.spec mul-word-at word-at-requires returns)
+pub row-word-spec : {M : Type 1} → statement M
+row-word-spec = tie.close (tie.spec mul-word-at word-at-requires returns)

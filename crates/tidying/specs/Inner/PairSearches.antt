@@ -15,7 +15,7 @@ use Rattle.rules.specs.Tidying.{gate, tidied}
 use Rattle.remembering.specs.Inner.Buffers.{gap, isGap, gatesIn, BufferHolds}
 use Rattle.remembering.specs.Inner.Rows.{Clear}
 use Rattle.remembering.specs.Inner.Views.{allKinds}
-use Rattle.remembering.specs.Inner.Changes.{MemoryTrue}
+use Rattle.remembering.specs.Inner.GateChanges.{MemoryTrue}
 
 -- the buffer is the records of m gates on six lines
 pub record GateRecords (b : List ℕ) (m : ℕ) : Type 0 where
