@@ -6,7 +6,7 @@
 
 use std::time::{Duration, Instant};
 
-use drawing::Numbers;
+use samples::Numbers;
 use second::gate::Operator;
 use second::hard::{hard, standing_rows, Part, Recipe};
 

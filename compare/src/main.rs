@@ -19,7 +19,7 @@ mod sheets;
 use std::process::ExitCode;
 use std::time::Instant;
 
-use drawing::Numbers;
+use samples::Numbers;
 use second::calls::Call;
 use second::cases::cases;
 

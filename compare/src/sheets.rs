@@ -1,6 +1,6 @@
 //! The program `tiles` beside the second program, on table files good and bad.
 
-use drawing::Numbers;
+use samples::Numbers;
 use second::hard::hardest;
 use second::sheet;
 

@@ -1,6 +1,6 @@
 //! Cascades, good and bad.
 
-use drawing::{inverse, Numbers};
+use samples::{inverse, Numbers};
 use second::gate::Operator::{C1, C2};
 use second::hard::{words, Recipe};
 use second::synthesis::synthesize;

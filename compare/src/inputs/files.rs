@@ -1,6 +1,6 @@
 //! Cascade files, good and damaged, and made-up readers of them.
 
-use drawing::Numbers;
+use samples::Numbers;
 
 use super::cascades::{good_cascade, some_cascade};
 use super::{board, said, some_note};

@@ -5,7 +5,7 @@ mod cascades;
 mod files;
 mod tables;
 
-use drawing::Numbers;
+use samples::Numbers;
 use second::calls::Call;
 use second::file::opening;
 use second::pattern::Lines;

@@ -1,6 +1,6 @@
 //! Tables, good and bad.
 
-use drawing::Numbers;
+use samples::Numbers;
 
 use super::{board, said};
 

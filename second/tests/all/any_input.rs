@@ -1,7 +1,7 @@
 //! Any bytes and any numbers: every call ends, and only its answer and its own
 //! room tell that it was called.
 
-use drawing::Numbers;
+use samples::Numbers;
 use second::cascade::{check, price, run};
 use second::choice::{cheaper, choose};
 use second::file::{next, opening, Reader};

@@ -1,6 +1,6 @@
 //! Running, tabulating, inverting and pricing against the plain reading.
 
-use drawing::Numbers;
+use samples::Numbers;
 use second::cascade::{check, price, run};
 use second::gate::Gate;
 use second::pattern::{Digits, Lines};

@@ -1,6 +1,6 @@
 //! The cheaper of two.
 
-use drawing::Numbers;
+use samples::Numbers;
 use second::cascade::price;
 use second::cases::gates;
 use second::choice::{cheaper, choose, FIRST, SECOND};

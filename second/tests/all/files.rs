@@ -1,6 +1,6 @@
 //! Cascade files there and back, damaged files, and readers good and made up.
 
-use drawing::Numbers;
+use samples::Numbers;
 use second::answer::Answer;
 use second::cases::gates;
 use second::file::{next, opening, Contents, Opening, Reader};

@@ -1,6 +1,6 @@
 //! Tables and cascades that take long, made by formula.
 
-use drawing::inverse;
+use samples::inverse;
 use second::hard::{hard, standing_rows};
 use second::tidying::tidy;
 

@@ -1,6 +1,6 @@
 //! The printed text, and the program's.
 
-use drawing::Numbers;
+use samples::Numbers;
 
 use crate::calls::{listing, sheet, synthesized};
 use crate::helpers::refused;

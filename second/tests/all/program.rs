@@ -3,7 +3,7 @@
 use std::io::Write;
 use std::process::{Command, Output, Stdio};
 
-use drawing::Numbers;
+use samples::Numbers;
 use second::cases::cases;
 use second::vectors::{lines, write_cases};
 

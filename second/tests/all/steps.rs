@@ -1,6 +1,6 @@
 //! Tidying against the plain procedure, step by step.
 
-use drawing::Numbers;
+use samples::Numbers;
 use second::tidying::Rack;
 
 use crate::plain;

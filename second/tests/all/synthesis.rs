@@ -1,6 +1,6 @@
 //! From table to cascade, and what the demands ask of it.
 
-use drawing::Numbers;
+use samples::Numbers;
 use second::gate::Operator;
 use second::pattern::Lines;
 use second::table::{check_table, Permutation};

@@ -1,7 +1,7 @@
 //! Tidying against the plain procedure, and what the demands ask of it.
 //! (That the two agree after every single step is tested in `steps`.)
 
-use drawing::Numbers;
+use samples::Numbers;
 use second::calls::Call;
 use second::cascade::{check, price};
 use second::cases::{cases, gates};
