@@ -32,8 +32,7 @@ opened f r o =
       at = λ none. ap (λ (l : List ℕ). getD l 1 0) (o .found _ (exactly .accepts .1 none) .1);
       end = λ none. ap (λ (l : List ℕ). getD l 2 0) (o .found _ (exactly .accepts .1 none) .1);
       none = λ k p rows.
-          let e = o .none k p (exactly .refusals k p .1 rows) in
-          (
+          let e = o .none k p (exactly .refusals k p .1 rows) in (
             record { start = e .0; empty = e .1 },
             ap (λ (l : List ℕ). getD l 0 0) (e .2),
             ap (λ (l : List ℕ). getD l 1 0) (e .2),

@@ -12,9 +12,10 @@ abbrev pub numbers : Answer → Numbers
 numbers a =
     record { number = number a; place = place a; first = getD (values a) 0 0; second = getD (values a) 1 0; third = getD (values a) 2 0 }
 
--- a reader's turn: 1 for a gate and 0 for the end, the place afterwards, and the gate as one number
+-- a reader's turn: 1 for a gate and 0 for the end, the place afterwards, and the gate as one number: the operator in byte 0, the target in byte 1,
+-- the packed controls from byte 2 on
 abbrev pub handedAs : Given → ℕ → Answer
-handedAs (Given.Gate o t c) at = accepted (1 ∷ at ∷ (o + 256 * t + 65536 * c) ∷ [])
+handedAs (Given.Gate o t c) at = accepted (1 ∷ at ∷ (o + 256 * t + 0x1_0000 * c) ∷ [])
 handedAs Given.End at = accepted (0 ∷ at ∷ [])
 handedAs (Given.Refused k p) at = refused k p
 

@@ -152,7 +152,7 @@ pub fn handed(given: Given, at: usize) -> Numbers
         } => accept(
             1,
             at as u64,
-            operator as u64 + 256 * target as u64 + 65536 * controls as u64,
+            operator as u64 + 256 * target as u64 + 0x1_0000 * controls as u64,
         ),
         Given::End => accept(0, at as u64, 0),
         Given::Refused { number, place } => refuse(number, place),

@@ -16,7 +16,7 @@ use Rattle.digits.specs.Digits.{digit, put}
 use Rattle.digits.proofs.Digits.{digit-lt, put-same}
 use Rattle.tables.specs.Permutations.{Permutation}
 use Rattle.procedure.specs.Procedure.{State, adding, digitStep, rowSteps, rows, settled, cascadeFor}
-use Rattle.procedure.proofs.Families.{Asked, Exchanges, Made}
+use Rattle.procedure.proofs.Families.{DigitChange, Exchanges, Made}
 use Rattle.procedure.proofs.Mixes.{mixed, mixed-none, mixed-digit, mixed-put, mixed-all, mixed-ge}
 use Rattle.procedure.proofs.Differences.{differing, differing-none, differing-same, differing-other}
 use Rattle.procedure.proofs.Steps.{begun, step-same, step-other}
@@ -28,7 +28,7 @@ Onto r n t = (q : ℕ) → q < r ^ n → (p : ℕ) × (p < r ^ n) × (getD t p 0
 module _ (r : ℕ) (pos : 0 < r) {G : Type 0} (apply : G → ℕ → ℕ) (make : ℕ → ℕ → ℕ → ℕ → G) (n : ℕ) (fam : Exchanges r apply make n) where
   -- ---- a gate that was asked for, applied to all entries of a permutation
 
-  module _ (k a d : ℕ) (w : Asked r n k a d) (t : List ℕ) (perm : Permutation (r ^ n) t) where
+  module _ (k a d : ℕ) (w : DigitChange r n k a d) (t : List ℕ) (perm : Permutation (r ^ n) t) where
     pub entry-after : (p : ℕ) → p < r ^ n → getD (map (apply (make n k a d)) t) p 0 ≡ apply (make n k a d) (getD t p 0)
     entry-after p lt = map-at (apply (make n k a d)) t p 0 0 (omega (arith, perm .size))
 
@@ -71,7 +71,7 @@ module _ (r : ℕ) (pos : 0 < r) {G : Type 0} (apply : G → ℕ → ℕ) (make 
       pub count : length (s .found) ≡ c + differing r k a i
 
     -- one more gate
-    kept-adding : (k a d : ℕ) (s : State G) → Asked r n k a d → Kept s → Kept (adding r apply make (make n k a d) s)
+    kept-adding : (k a d : ℕ) (s : State G) → DigitChange r n k a d → Kept s → Kept (adding r apply make (make n k a d) s)
     unfolding adding
     kept-adding k a d s w h =
         record {
@@ -83,7 +83,7 @@ module _ (r : ℕ) (pos : 0 < r) {G : Type 0} (apply : G → ℕ → ℕ) (make 
               ∙ ap (through apply (s .found)) (fam .twice k a d w (getD (s .table) p 0) (h .perm .within p lp))
               ∙ h .back p lp;
           onto = λ f. h .onto (onto-before k a d w (s .table) (h .perm) f);
-          made = (record { k = k; a = a; d = d; asked = w; is = refl }, h .made);
+          made = (record { k = k; a = a; d = d; change = w; is = refl }, h .made);
         }
 
     -- ---- one digit of a row
@@ -106,20 +106,20 @@ module _ (r : ℕ) (pos : 0 < r) {G : Type 0} (apply : G → ℕ → ℕ) (make 
           })
 
       module _ (ne : digit r k (getD (s .table) i 0) ≡ digit r k i → ⊥) where
-        asked : Asked r n k (getD (s .table) i 0) (digit r k i)
-        asked = record { line = line; pattern = u .done .kept .perm .within i below; value = digit-lt r k i pos; differs = ne }
+        change : DigitChange r n k (getD (s .table) i 0) (digit r k i)
+        change = record { line = line; pattern = u .done .kept .perm .within i below; value = digit-lt r k i pos; differs = ne }
 
         entry-added : (p : ℕ) → p < r ^ n
             → getD (adding r apply make (make n k (getD (s .table) i 0) (digit r k i)) s .table) p 0 ≡ apply (make n k (getD (s .table) i 0) (digit r k i)) (getD (s .table) p 0)
         unfolding adding
-        entry-added p lp = entry-after k (getD (s .table) i 0) (digit r k i) asked (s .table) (u .done .kept .perm) p lp
+        entry-added p lp = entry-after k (getD (s .table) i 0) (digit r k i) change (s .table) (u .done .kept .perm) p lp
 
         -- neither of the two patterns that change places is below i
         stays : (j : ℕ) → j < i → getD (adding r apply make (make n k (getD (s .table) i 0) (digit r k i)) s .table) j 0 ≡ j
         stays j lt =
             entry-added j (omega arith)
             ∙ ap (apply (make n k (getD (s .table) i 0) (digit r k i))) (u .done .settled j lt)
-            ∙ fam .others k (getD (s .table) i 0) (digit r k i) asked j (omega arith) (λ e. omega (arith, e ∙ u .entry, mixed-ge r pos k a i ge))
+            ∙ fam .others k (getD (s .table) i 0) (digit r k i) change j (omega arith) (λ e. omega (arith, e ∙ u .entry, mixed-ge r pos k a i ge))
             (λ e. omega (arith, e ∙ next-entry, mixed-ge r pos (suc k) a i ge))
 
         longer : length (adding r apply make (make n k (getD (s .table) i 0) (digit r k i)) s .found) ≡ suc (length (s .found))
@@ -130,8 +130,8 @@ module _ (r : ℕ) (pos : 0 < r) {G : Type 0} (apply : G → ℕ → ℕ) (make 
         under-other =
             rw (step-other r apply make n i k s ne)
             (record {
-              done = record { kept = kept-adding k (getD (s .table) i 0) (digit r k i) s asked (u .done .kept); settled = stays };
-              entry = entry-added i below ∙ fam .there k (getD (s .table) i 0) (digit r k i) asked ∙ next-entry;
+              done = record { kept = kept-adding k (getD (s .table) i 0) (digit r k i) s change (u .done .kept); settled = stays };
+              entry = entry-added i below ∙ fam .there k (getD (s .table) i 0) (digit r k i) change ∙ next-entry;
               count = omega (arith, longer, u .count, differing-other r k a i (λ e. ne (of-a ∙ e)));
             })
 

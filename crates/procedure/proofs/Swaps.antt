@@ -6,7 +6,7 @@ use native.Mathlib.Decide.{ℕ-discrete}
 use borrow.Author.Tests.{eq-eqb, ne-eqb}
 use Rattle.digits.specs.Digits.{put}
 use Rattle.procedure.specs.Inner.Exchanges.{exchanged}
-use Rattle.procedure.proofs.Families.{Asked, Exchanges, back-again}
+use Rattle.procedure.proofs.Families.{DigitChange, Exchanges, back-again}
 
 module _ (a b : ℕ) where
   pub at-one : exchanged a b a ≡ b
@@ -41,7 +41,7 @@ module _ (a b : ℕ) where
   exchanged-lt m la lb = by-pattern (λ p q. p < m → q < m) (λ l. lb) (λ l. la) (λ p na nb l. l)
 
 -- a gate that was asked for exchanges two patterns
-pub gate-exchanges : (r : ℕ) {G : Type 0} (apply : G → ℕ → ℕ) (make : ℕ → ℕ → ℕ → ℕ → G) (n : ℕ) → Exchanges r apply make n → (k a d : ℕ) → Asked r n k a d
+pub gate-exchanges : (r : ℕ) {G : Type 0} (apply : G → ℕ → ℕ) (make : ℕ → ℕ → ℕ → ℕ → G) (n : ℕ) → Exchanges r apply make n → (k a d : ℕ) → DigitChange r n k a d
     → (p : ℕ) → p < r ^ n → apply (make n k a d) p ≡ exchanged a (put r k a d) p
 gate-exchanges r apply make n fam k a d w =
     by-pattern a (put r k a d) (λ p q. p < r ^ n → apply (make n k a d) p ≡ q) (λ l. fam .there k a d w) (λ l. back-again r apply make n fam k a d w)

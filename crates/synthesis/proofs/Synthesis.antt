@@ -51,7 +51,7 @@ module _ (n : ℕ) (t : List ℕ) (lines : n ≤ 6) (perm : Permutation (3 ^ n) 
   synthesized-bound = enough 2 applied gateFor n (ternary n lines) t perm (omega arith)
 
   made-gate : (g : Gate) → Made 3 applied gateFor n g → IsGate n g
-  made-gate g m = rw (m .is) (is-gate n (m .k) (m .a) (m .d) lines (m .asked .line))
+  made-gate g m = rw (m .is) (is-gate n (m .k) (m .a) (m .d) lines (m .change .line))
 
   pub synthesized-gates : Each (IsGate n) (synthesized n t)
   unfolding synthesized

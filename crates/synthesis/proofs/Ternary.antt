@@ -13,7 +13,7 @@ use Rattle.digits.proofs.Sizes.{three-pos}
 use Rattle.gates.specs.Gates.{act, inverseOp, applied, inverse}
 use Rattle.gates.specs.Inner.Firing.{fires}
 use Rattle.gates.proofs.Gates.{applied-yes, applied-no, applied-lt, applied-inverse}
-use Rattle.procedure.proofs.Families.{Asked, Exchanges}
+use Rattle.procedure.proofs.Families.{DigitChange, Exchanges}
 use Rattle.synthesis.specs.Synthesis.{exchanger, gateFor}
 use Rattle.synthesis.proofs.Exchangers.{exchanger-op, exchanger-there, exchanger-third}
 use Rattle.synthesis.proofs.Controls.{is-gate, gate-fires, fires-gate}
@@ -29,7 +29,7 @@ inverse-same n k a d =
     let e : inverseOp (exchanger (digit 3 k a) d) ≡ exchanger (digit 3 k a) d = inverse-high _ (exchanger-op (digit 3 k a) d .0) in
     λ i. record { operator = e i; target = gateFor n k a d .target; controls = gateFor n k a d .controls }
 
-module _ (n : ℕ) (lines : n ≤ 6) (k a d : ℕ) (w : Asked 3 n k a d) where
+module _ (n : ℕ) (lines : n ≤ 6) (k a d : ℕ) (w : DigitChange 3 n k a d) where
   gate-twice : (p : ℕ) → applied (gateFor n k a d) (applied (gateFor n k a d) p) ≡ p
   gate-twice p = rw (inverse-same n k a d) at (applied-inverse n (gateFor n k a d) p (is-gate n k a d lines (w .line)))
 
