@@ -1,30 +1,36 @@
--- The cases that document 01 marks P, its printed example and some of its edges: what each call must answer, and what it must leave.
-use Prim.Native.Nat.{ℕ, _-_, _*_}
+-- The cases P1 to P13 of document 01, what it prints of the vector of 003, and its edges: what each call must answer, and what it must leave.
+use Prim.Native.Nat.{ℕ, _+_, _-_, _*_, _^_}
 use mathlib.Core.List.{List, [], _∷_, _++_}
+use lib.ListN.{replicate}
+use Rattle.ranges.specs.Ranges.{span}
 use Rattle.card.specs.Card.{Answer, Answer.accepted, Answer.refused}
 use Rattle.cascades.specs.Cascades.{gatesOf, bytesOf, tableOf}
-use Rattle.cascades.specs.Answers.{priceAnswer}
+use Rattle.cascades.specs.Prices.{base}
+use Rattle.cascades.specs.Answers.{checkAnswer, priceAnswer}
 use Rattle.tables.specs.Tables.{checkTableAnswer}
-use Rattle.synthesis.specs.Synthesis.{synthesizeAnswer, synthesized}
+use Rattle.synthesis.specs.Synthesis.{bound, synthesized, synthesizeAnswer, synthesizeRoom}
 use Rattle.rules.specs.Tidying.{tidyAnswer, tidyBuffer}
+use Rattle.texts.specs.Texts.{ascii, joined}
+use Rattle.listings.specs.Listings.{listingText}
+use Rattle.sheets.specs.Sheets.{sheetText}
 
--- what a call answers, or what it leaves in a lent buffer
+-- what a call answers; or numbers: the bytes that it leaves in a lent buffer, a text, a table
 pub data Result : Type 0 where
   says : Answer → Result
-  leaves : List ℕ → Result
+  lists : List ℕ → Result
 
--- a case: what the definitions give, and what document 01 prints
+-- a case: what the definitions give, and what document 01 says
 pub record Case : Type 0 where
-  pub given : Result
-  pub printed : Result
+  pub computed : Result
+  pub expected : Result
 
 abbrev answer-is : Answer → Answer → List Case
-answer-is a b = record { given = says a; printed = says b } ∷ []
+answer-is a b = record { computed = says a; expected = says b } ∷ []
 
-abbrev left-is : List ℕ → List ℕ → List Case
-left-is a b = record { given = leaves a; printed = leaves b } ∷ []
+abbrev numbers-are : List ℕ → List ℕ → List Case
+numbers-are a b = record { computed = lists a; expected = lists b } ∷ []
 
--- records by their names: the operator, the target, and what stands on x0 and x1
+-- records by their names: the operator, the target, and what stands on the other of x0 and x1
 abbrev C1 : ℕ
 C1 = 1
 
@@ -40,73 +46,166 @@ D = 4
 abbrev E : ℕ
 E = 5
 
+abbrev no-control : ℕ
+no-control = 3
+
 abbrev x0 : ℕ → ℕ → List ℕ
 x0 o c = o ∷ 0 ∷ 3 ∷ c ∷ 3 ∷ 3 ∷ 3 ∷ 3 ∷ []
 
 abbrev x1 : ℕ → ℕ → List ℕ
 x1 o c = o ∷ 1 ∷ c ∷ 3 ∷ 3 ∷ 3 ∷ 3 ∷ 3 ∷ []
 
-abbrev free : ℕ
-free = 3
+-- a record freed by tidying
+abbrev zero-record : List ℕ
+zero-record = 0 ∷ 0 ∷ 0 ∷ 0 ∷ 0 ∷ 0 ∷ 0 ∷ 0 ∷ []
 
-abbrev gone : List ℕ
-gone = 0 ∷ 0 ∷ 0 ∷ 0 ∷ 0 ∷ 0 ∷ 0 ∷ 0 ∷ []
+-- what a lent room held before: m bytes from place i on, each with a value of its own
+abbrev old-bytes : ℕ → ℕ → List ℕ
+old-bytes i m = span (λ k. 0x80 + k) i m
 
--- tidying the cascade b on n lines answers a and leaves c
+-- the cascade found for the table t, as bytes
+abbrev bytes-for : ℕ → List ℕ → List ℕ
+bytes-for n t = bytesOf (synthesized n t)
+
+-- the cascade b costs c at the global control value 2
+abbrev price-is : ℕ → List ℕ → ℕ → List Case
+price-is n b c = answer-is (priceAnswer n 2 b) (accepted (c ∷ []))
+
+-- synthesis of the table t into a room of m bytes answers a and leaves b
+abbrev synthesizes : ℕ → List ℕ → ℕ → Answer → List ℕ → List Case
+synthesizes n t m a b = answer-is (synthesizeAnswer n t m) a ++ numbers-are (synthesizeRoom n t (old-bytes 0 m)) b
+
+-- check and synthesis refuse the table t by k at p, and the room stays as it was
+abbrev refuses : ℕ → List ℕ → ℕ → ℕ → List Case
+refuses n t k p = answer-is (checkTableAnswer n t) (refused k p) ++ synthesizes n t 16 (refused k p) (old-bytes 0 16)
+
+-- tidying the cascade b answers a and leaves c
 abbrev tidies : ℕ → List ℕ → Answer → List ℕ → List Case
-tidies n b a c = answer-is (tidyAnswer n b) a ++ left-is (tidyBuffer n b) c
+tidies n b a c = answer-is (tidyAnswer n b) a ++ numbers-are (tidyBuffer n b) c
 
-abbrev p1-p2 : List Case
-p1-p2 =
-    answer-is (synthesizeAnswer 1 (0 ∷ 1 ∷ 2 ∷ []) 16) (accepted (0 ∷ []))
-    ++ answer-is (priceAnswer 1 2 []) (accepted (0 ∷ []))
-    ++ answer-is (synthesizeAnswer 1 (1 ∷ 2 ∷ 0 ∷ []) 16) (accepted (2 ∷ []))
-    ++ left-is (bytesOf (synthesized 1 (1 ∷ 2 ∷ 0 ∷ []))) (x0 D free ++ x0 E free)
-    ++ answer-is (priceAnswer 1 2 (x0 D free ++ x0 E free)) (accepted (2 ∷ []))
+-- n 1, table 0 1 2: no gates, cost 0
+abbrev P1 : List Case
+P1 =
+    let t : List ℕ = 0 ∷ 1 ∷ 2 ∷ [] in
+    synthesizes 1 t 16 (accepted (0 ∷ [])) (old-bytes 0 16) ++ price-is 1 (bytes-for 1 t) 0
 
-abbrev p3-p7 : List Case
-p3-p7 =
-    answer-is (checkTableAnswer 1 (0 ∷ 1 ∷ 3 ∷ [])) (refused 3 2)
-    ++ answer-is (checkTableAnswer 1 (0 ∷ 0 ∷ 1 ∷ [])) (refused 4 1)
-    ++ answer-is (checkTableAnswer 1 (0 ∷ 0 ∷ 3 ∷ [])) (refused 3 2)
-    ++ answer-is (checkTableAnswer 1 (0 ∷ 1 ∷ [])) (refused 2 0)
-    ++ answer-is (checkTableAnswer 0 (0 ∷ [])) (refused 1 0)
-    ++ answer-is (checkTableAnswer 7 []) (refused 1 0)
+-- n 1, table 1 2 0: D x0, E x0, cost 2, exactly the bound: a room of two records is enough, and a byte less is not
+abbrev P2 : List Case
+P2 =
+    let t : List ℕ = 1 ∷ 2 ∷ 0 ∷ [] in
+    synthesizes 1 t 16 (accepted (2 ∷ [])) (x0 D no-control ++ x0 E no-control)
+    ++ synthesizes 1 t 15 (refused 5 2) (old-bytes 0 15)
+    ++ synthesizes 1 t 8 (refused 5 2) (old-bytes 0 8)
+    ++ synthesizes 1 t 19 (accepted (2 ∷ [])) (x0 D no-control ++ x0 E no-control ++ old-bytes 16 3)
+    ++ price-is 1 (bytes-for 1 t) 2
 
-abbrev p8-p13 : List Case
-p8-p13 =
-    tidies 1 (x0 C1 free ++ x0 C1 free) (accepted (1 ∷ 1 ∷ [])) (x0 C2 free ++ gone)
-    ++ tidies 1 (x0 C1 free ++ x0 C2 free) (accepted (0 ∷ 1 ∷ [])) (gone ++ gone)
-    ++ tidies 2 (x0 C1 0 ++ x0 C1 1) (accepted (2 ∷ 1 ∷ [])) (x0 C1 free ++ x0 C2 2)
-    ++ answer-is (priceAnswer 2 2 (x0 C1 0 ++ x0 C1 1)) (accepted (6 ∷ []))
-    ++ answer-is (priceAnswer 2 2 (x0 C1 free ++ x0 C2 2)) (accepted (2 ∷ []))
-    ++ tidies 2 (x0 D 0 ++ x0 D 2) (accepted (2 ∷ 1 ∷ [])) (x0 D free ++ x0 D 1)
-    ++ answer-is (priceAnswer 2 2 (x0 D 0 ++ x0 D 2)) (accepted (4 ∷ []))
-    ++ answer-is (priceAnswer 2 2 (x0 D free ++ x0 D 1)) (accepted (4 ∷ []))
-    ++ tidies 2 (x1 E free ++ x0 D 2 ++ x1 E free) (accepted (1 ∷ 1 ∷ [])) (x0 D 2 ++ gone ++ gone)
-    ++ tidies 2 (x1 N free ++ x0 D 2 ++ x1 N free) (accepted (3 ∷ 0 ∷ [])) (x1 N free ++ x0 D 2 ++ x1 N free)
+-- n 1, table 0 1 3: 3 at 2
+abbrev P3 : List Case
+P3 = refuses 1 (0 ∷ 1 ∷ 3 ∷ []) 3 2
 
--- the vector of 003: the eleven gates that document 01 prints, their cost, and the table again
+-- 0 0 1: 4 at 1
+abbrev P4 : List Case
+P4 = refuses 1 (0 ∷ 0 ∷ 1 ∷ []) 4 1
+
+-- 0 0 3: 3 at 2
+abbrev P5 : List Case
+P5 = refuses 1 (0 ∷ 0 ∷ 3 ∷ []) 3 2
+
+-- table 0 1 at n 1: 2
+abbrev P6 : List Case
+P6 = refuses 1 (0 ∷ 1 ∷ []) 2 0
+
+-- n 0 and n 7: 1, though the tables have 3^n entries
+abbrev P7 : List Case
+P7 = refuses 0 (0 ∷ []) 1 0 ++ refuses 7 (span (λ i. i) 0 (3 ^ 7)) 1 0
+
+-- C1 x0, C1 x0 tidies to C2 x0, one step
+abbrev P8 : List Case
+P8 = tidies 1 (x0 C1 no-control ++ x0 C1 no-control) (accepted (1 ∷ 1 ∷ [])) (x0 C2 no-control ++ zero-record)
+
+-- C1 x0, C2 x0 to nothing
+abbrev P9 : List Case
+P9 = tidies 1 (x0 C1 no-control ++ x0 C2 no-control) (accepted (0 ∷ 1 ∷ [])) (zero-record ++ zero-record)
+
+-- C1 x0 x1=0, C1 x0 x1=1 to C1 x0, C2 x0 x1=2; cost at value 2 falls from 6 to 2
+abbrev P10 : List Case
+P10 =
+    let b : List ℕ = x0 C1 0 ++ x0 C1 1 in
+    tidies 2 b (accepted (2 ∷ 1 ∷ [])) (x0 C1 no-control ++ x0 C2 2) ++ price-is 2 b 6 ++ price-is 2 (tidyBuffer 2 b) 2
+
+-- D x0 x1=0, D x0 x1=2 to D x0, D x0 x1=1; cost stays 4
+abbrev P11 : List Case
+P11 =
+    let b : List ℕ = x0 D 0 ++ x0 D 2 in
+    tidies 2 b (accepted (2 ∷ 1 ∷ [])) (x0 D no-control ++ x0 D 1) ++ price-is 2 b 4 ++ price-is 2 (tidyBuffer 2 b) 4
+
+-- E x1, D x0 x1=2, E x1 to D x0 x1=2
+abbrev P12 : List Case
+P12 = tidies 2 (x1 E no-control ++ x0 D 2 ++ x1 E no-control) (accepted (1 ∷ 1 ∷ [])) (x0 D 2 ++ zero-record ++ zero-record)
+
+-- with N for E, nothing fits
+abbrev P13 : List Case
+P13 = let b : List ℕ = x1 N no-control ++ x0 D 2 ++ x1 N no-control in tidies 2 b (accepted (3 ∷ 0 ∷ [])) b
+
+-- the vector of 003: its table, its table file, and the listing that document 01 prints
 abbrev table-003 : List ℕ
 table-003 = 5 ∷ 6 ∷ 1 ∷ 7 ∷ 2 ∷ 3 ∷ 8 ∷ 0 ∷ 4 ∷ []
 
+abbrev file-003 : List ℕ
+file-003 = 2 ∷ 5 ∷ 0 ∷ 6 ∷ 0 ∷ 1 ∷ 0 ∷ 7 ∷ 0 ∷ 2 ∷ 0 ∷ 3 ∷ 0 ∷ 8 ∷ 0 ∷ 0 ∷ 0 ∷ 4 ∷ 0 ∷ []
+
+abbrev listing-003 : List ℕ
+listing-003 =
+    ascii "lines 2 gates 11 cost 21\n"
+    ++ ascii "D x0 x1=2\n"
+    ++ ascii "N x0 x1=2\n"
+    ++ ascii "D x1 x0=1\n"
+    ++ ascii "D x0 x1=2\n"
+    ++ ascii "D x1 x0=0\n"
+    ++ ascii "N x1 x0=2\n"
+    ++ ascii "D x0 x1=2\n"
+    ++ ascii "N x1 x0=1\n"
+    ++ ascii "E x0 x1=2\n"
+    ++ ascii "E x1 x0=0\n"
+    ++ ascii "N x0 x1=1\n"
+
+-- the same gates as records
 abbrev gates-003 : List ℕ
 gates-003 =
     x0 D 2 ++ x0 N 2 ++ x1 D 1 ++ x0 D 2 ++ x1 D 0 ++ x1 N 2 ++ x0 D 2 ++ x1 N 1 ++ x0 E 2 ++ x1 E 0 ++ x0 N 1
 
+-- the room of 14 records: 11 are written, and the last 24 bytes keep what they held
 abbrev vector-003 : List Case
 vector-003 =
-    answer-is (synthesizeAnswer 2 table-003 (14 * 8)) (accepted (11 ∷ []))
-    ++ left-is (bytesOf (synthesized 2 table-003)) gates-003
-    ++ answer-is (priceAnswer 2 2 gates-003) (accepted (21 ∷ []))
-    ++ left-is (tableOf 2 (gatesOf gates-003)) table-003
+    synthesizes 2 table-003 (14 * 8) (accepted (11 ∷ [])) (gates-003 ++ old-bytes 88 24)
+    ++ price-is 2 (bytes-for 2 table-003) 21
+    ++ numbers-are (tableOf 2 (synthesized 2 table-003)) table-003
+    ++ numbers-are (listingText 2 (synthesized 2 table-003)) listing-003
+    ++ numbers-are (sheetText file-003) listing-003
 
--- on both sides of an edge
-abbrev edges : List Case
-edges =
-    answer-is (synthesizeAnswer 2 table-003 (14 * 8 - 1)) (refused 5 14)
-    ++ tidies 2 [] (accepted (0 ∷ 0 ∷ [])) []
-    ++ tidies 2 (x0 C1 2) (accepted (1 ∷ 0 ∷ [])) (x0 C1 2)
+-- room 13 at n 2: 5 at 14, also where only a byte is missing from 14
+abbrev rooms : List Case
+rooms =
+    synthesizes 2 table-003 (13 * 8) (refused 5 14) (old-bytes 0 (13 * 8))
+    ++ synthesizes 2 table-003 (14 * 8 - 1) (refused 5 14) (old-bytes 0 (14 * 8 - 1))
+
+-- empty and one-gate cascades tidy to themselves, 0 steps
+abbrev short-cascades : List Case
+short-cascades = tidies 2 [] (accepted (0 ∷ 0 ∷ [])) [] ++ tidies 2 (x0 C1 2) (accepted (1 ∷ 0 ∷ [])) (x0 C1 2)
+
+-- 8,001 gates: 6; of 8,000 records that are no gates the first is refused instead
+abbrev long-cascades : List Case
+long-cascades =
+    answer-is (checkAnswer 1 (joined (replicate 8001 (x0 C1 no-control)))) (refused 6 0)
+    ++ answer-is (checkAnswer 1 (joined (replicate 8001 zero-record))) (refused 6 0)
+    ++ answer-is (checkAnswer 1 (joined (replicate 8000 zero-record))) (refused 7 0)
+
+-- the numbers that document 01 prints: the room asked for 1 to 6 lines, the base cost of 0 to 5 controls
+abbrev printed-rows : List Case
+printed-rows =
+    numbers-are (span bound 1 6) (2 ∷ 14 ∷ 68 ∷ 284 ∷ 1094 ∷ 4010 ∷ []) ++ numbers-are (span base 0 6) (1 ∷ 1 ∷ 5 ∷ 15 ∷ 35 ∷ 75 ∷ [])
 
 abbrev pub cases : List Case
-cases = p1-p2 ++ p3-p7 ++ p8-p13 ++ vector-003 ++ edges
+cases =
+    P1 ++ P2 ++ P3 ++ P4 ++ P5 ++ P6 ++ P7 ++ P8 ++ P9 ++ P10 ++ P11 ++ P12 ++ P13
+    ++ vector-003 ++ rooms ++ short-cascades ++ long-cascades ++ printed-rows
