@@ -1,16 +1,15 @@
 -- What a table file is answered: 1 and 2 by its first byte and its length, 3 and 4 by its entries, and else the listing of the synthesized cascade.
 -- `listing-sheet` and `room-sheet` say that to list the cascade's records is to write the file's text. Assumes nothing.
-use mathlib.Core.Path.{_≡_, refl, sym, ap, _∙_}
-use mathlib.Core.Bool.{Bool, true, false, cond, not}
+use mathlib.Core.Path.{_≡_, sym, ap, _∙_}
+use mathlib.Core.Bool.{true, false, not}
 use mathlib.Core.Logic.{_⊎_}
 use mathlib.Core.List.{List, [], _∷_, _++_, append-assoc}
 use Prim.Native.Nat.{ℕ, _+_, _*_, _/_, _^_, _≤_, _<_}
 use native.Mathlib.Omega.{arith}
-use lib.Dec.{ltb}
 use lib.ListN.{length, length-append}
 use lib.Seq.{sets}
-use borrow.Author.Tests.{eq-eqb, ne-eqb, lt-ltb, le-ltb, ltb-false}
-use Rattle.card.specs.Card.{Answer.accepted, Answer.refused, refusing, linesOk, after, laid}
+use borrow.Author.Tests.{eq-eqb, ne-eqb, lt-ltb, le-ltb}
+use Rattle.card.specs.Card.{Answer.accepted, Answer.refused, linesOk, after, laid}
 use Rattle.card.proofs.Cards.{lines-are, no-lines, good-lines, refusing-yes, refusing-no, refused-both, accepted-both, sets-laid}
 use Rattle.tables.specs.Tables.{onTable}
 use Rattle.tables.specs.Permutations.{Permutation}
@@ -69,20 +68,6 @@ module _ (f : List ℕ) where
         rw is
         (accepted-both _ (length (sheetText f) ∷ []) _ room now (refusing-no _ 5 _ _ (le-ltb (length room) (length (sheetText f)) (omega arith)))
         (e ∙ sets-laid (sheetText f) room (omega arith)))
-
-  -- where a text is written, the room holds it
-  pub sheet-fits : (m room : ℕ) → accepted (m ∷ []) ≡ sheetAnswer f room → m ≤ room
-  unfolding sheetAnswer refusing
-  sheet-fits m room = go (ltb room (length (sheetText f))) refl
-    where
-      go : (b : Bool) → ltb room (length (sheetText f)) ≡ b
-          → accepted (m ∷ []) ≡ cond b (refused 5 (length (sheetText f))) (accepted (length (sheetText f) ∷ [])) → m ≤ room
-      go true b e =
-          let z : _≡_ {A = ℕ} 0 1 = cc in
-          absurd (omega arith)
-      go false b e =
-          let size : m ≡ length (sheetText f) = cc in
-          omega (arith, ltb-false room (length (sheetText f)) b)
 
 -- ---- what synthesis finds of the entries, with room enough for its records
 

@@ -1,10 +1,10 @@
 // The program's text for a table file.
 ghost use mathlib.Core.Path.{_≡_};
 ghost use Prim.Native.Nat.{_/_, _^_, _≤_};
-ghost use lib.ListN.{length};
+ghost use lib.ListN.{length, take};
 ghost use Rattle.synthesis.specs.Synthesis.{bound};
 ghost use Rattle.listings.specs.Listings.{listedAs};
-ghost use Rattle.sheets.specs.Sheets.{entriesOf, sheetAnswer, sheetRoom};
+ghost use Rattle.sheets.specs.Sheets.{entriesOf, sheetText, sheetAnswer, sheetRoom};
 ghost use Rattle.sheets.specs.Inner.TableFiles.{TableFile};
 
 mod refusals;
@@ -66,4 +66,15 @@ pub fn sheet(file: &[u8], room: &mut [u8]) -> Listed
         return refusals::list_refusal(file, 2, 0, room);
     }
     list_file(lines, file, size, room)
+}
+
+// What the program prints: the text of any bytes, at the start of a room that takes the text of any; answers how many bytes it has.
+pub fn write_sheet(file: &[u8], room: &mut [u8; 131072]) -> usize
+    ensures { λ m. ⌜ take m (now (room .exit)) ≡ sheetText (now (file .entry)) ⌝ }
+    ensures { λ m. ⌜ (m ≤ length (now (room .exit))) × (m ≡ length (take m (now (room .exit)))) ⌝ }
+{
+    let Listed::Bytes(m) = sheet(file, room) else {
+        return 0;
+    };
+    m
 }
