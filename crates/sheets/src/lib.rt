@@ -73,8 +73,9 @@ pub fn write_sheet(file: &[u8], room: &mut [u8; 131072]) -> usize
     ensures { λ m. ⌜ take m (now (room .exit)) ≡ sheetText (now (file .entry)) ⌝ }
     ensures { λ m. ⌜ (m ≤ length (now (room .exit))) × (m ≡ length (take m (now (room .exit)))) ⌝ }
 {
-    let Listed::Bytes(m) = sheet(file, room) else {
-        return 0;
-    };
-    m
+    match sheet(file, room) {
+        Listed::Bytes(m) => m,
+        // no text is longer than the room
+        Listed::Refused { .. } => 0,
+    }
 }

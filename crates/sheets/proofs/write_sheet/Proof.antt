@@ -21,16 +21,16 @@ enum-known-m c = search needs
 enum-told : tie.Need-enum-told
 enum-told c = search needs
 
--- the room is not too small
 returns : tie.Need-returns
 returns c =
-    let d = c .before .before in
-    not-accepted _ _ _ (ap listedAs (sym (c .enum-told .given .1)) ∙ d .sheet .ensures .0 ∙ wide-accepted _ (d .before .before .before .args .room .now) (wide d))
-
-returns-2 : tie.Need-returns-2
-returns-2 c =
     let d = c .before .before .before in
     sheet-first _ _ (wide d) _ (ap listedAs (sym (c .before .m .given .1)) ∙ d .sheet .ensures .0) _ (d .sheet .ensures .1)
+
+-- nothing is refused
+returns-2 : tie.Need-returns-2
+returns-2 c =
+    let d = c .before .before in
+    not-accepted _ _ _ (ap listedAs (sym (c .enum-told .given .1)) ∙ d .sheet .ensures .0 ∙ wide-accepted _ (d .before .before .before .args .room .now) (wide d))
 
 pub write-sheet-spec : {M : Type 1} → statement M
 write-sheet-spec =
