@@ -1,4 +1,4 @@
--- P1 to P13 of document 01, its printed example and edges hold of the definitions: one statement over one list, computed. Assumes nothing.
+-- P1 to P13 of document 01, its printed listing and its edges hold of the definitions: one statement over one list, computed. Assumes nothing.
 use mathlib.Core.Path.{_≡_, refl}
 use mathlib.Core.List.{map}
 use Rattle.ranges.specs.Ranges.{every, some, sum, first, span}
@@ -15,7 +15,8 @@ use Rattle.cascades.specs.Answers.{lengthOk, badRecord, firstBad, onRecords, ch
 use Rattle.synthesis.specs.Synthesis.{exchanger, controlFor, gateFor, synthesized, bound, synthesizeAnswer, synthesizeRoom}
 use Rattle.rules.specs.Places.{isC, sameType, upsets, blocks, clashes, mayChange}
 use Rattle.rules.specs.Rules.{sameLines, differAt, differences, lineOf, cancels, merges, reduces, fits, withControl, loosened, retuned}
-use Rattle.rules.specs.Tidying.{isOpen, fitting, firstJ, firstI, without, ruled, untidy, step, tidiedWithin, gatesAndControls, tidied, tidyAnswer, tidyBuffer}
+use Rattle.rules.specs.Tidying.{isOpen, fitting, firstJ, firstI, without, ruled, untidy, step}
+use Rattle.rules.specs.Tidying.{tidiedWithin, gatesAndControls, tidied, tidyAnswer, tidyBuffer}
 use Rattle.texts.specs.Texts.{width, decimal, joined}
 use Rattle.texts.specs.GateTexts.{lineText, controlText, gateText, gateTexts}
 use Rattle.listings.specs.Listings.{operatorName, headText, listingWith, listingText}
@@ -23,5 +24,24 @@ use Rattle.sheets.specs.Sheets.{linesOf, entriesOf, fileAnswer, textFor, sheetT
 use Rattle.cases.specs.Cases.{Case, cases}
 
 pub all-hold : map (λ (c : Case). c .computed) cases ≡ map (λ (c : Case). c .expected) cases
-unfolding laid checkAnswer synthesizeRoom width decimal joined lineText controlText gateText gateTexts operatorName headText listingWith listingText linesOf entriesOf fileAnswer textFor sheetText every some sum first span total through digit put pack refusing linesOk onLines after act inverseOp holds firesOn changed applied inverse lineOk linesOkAt packedAt isRecord gateAt recordOf tooLarge repeated firstLarge firstRepeated onTable checkTableAnswer adding digitStep rowSteps rows settled cascadeFor gatesOf bytesOf tableFor base controlCount others gatePrice cascadePrice lengthOk badRecord firstBad onRecords priceAnswer exchanger controlFor gateFor synthesized bound synthesizeAnswer isC sameType upsets blocks clashes mayChange sameLines differAt differences lineOf cancels merges reduces fits withControl loosened retuned isOpen fitting firstJ firstI without ruled untidy step tidiedWithin gatesAndControls tidied tidyAnswer tidyBuffer
+unfolding every some sum first span
+    total through
+    digit put pack
+    refusing linesOk onLines after laid
+    act inverseOp holds firesOn changed applied inverse
+    lineOk linesOkAt packedAt isRecord gateAt recordOf
+    tooLarge repeated firstLarge firstRepeated onTable checkTableAnswer
+    adding digitStep rowSteps rows settled cascadeFor
+    gatesOf bytesOf tableFor
+    base controlCount others gatePrice cascadePrice
+    lengthOk badRecord firstBad onRecords checkAnswer priceAnswer
+    exchanger controlFor gateFor synthesized bound synthesizeAnswer synthesizeRoom
+    isC sameType upsets blocks clashes mayChange
+    sameLines differAt differences lineOf cancels merges reduces fits withControl loosened retuned
+    isOpen fitting firstJ firstI without ruled untidy step
+    tidiedWithin gatesAndControls tidied tidyAnswer tidyBuffer
+    width decimal joined
+    lineText controlText gateText gateTexts
+    operatorName headText listingWith listingText
+    linesOf entriesOf fileAnswer textFor sheetText
 all-hold = refl
