@@ -8,7 +8,7 @@ use Rattle.cascades.specs.Cascades.{gatesOf, bytesOf, tableOf}
 use Rattle.cascades.specs.Prices.{base}
 use Rattle.cascades.specs.Answers.{checkAnswer, priceAnswer}
 use Rattle.tables.specs.Tables.{checkTableAnswer}
-use Rattle.synthesis.specs.Synthesis.{bound, synthesized, synthesizeAnswer, synthesizeRoom}
+use Rattle.synthesis.specs.Synthesis.{synthesized, synthesizeAnswer, synthesizeRoom}
 use Rattle.rules.specs.Tidying.{tidyAnswer, tidyBuffer}
 use Rattle.texts.specs.Texts.{ascii, joined}
 use Rattle.listings.specs.Listings.{listingText}
@@ -183,6 +183,20 @@ vector-003 =
     ++ numbers-are (listingText 2 (synthesized 2 table-003)) listing-003
     ++ numbers-are (sheetText file-003) listing-003
 
+-- one line for a refused table file: 0 1 1 at n 1; the empty input, which counts as n 0; a byte missing
+abbrev refusal-lines : List Case
+refusal-lines =
+    numbers-are (sheetText (1 ∷ 0 ∷ 0 ∷ 1 ∷ 0 ∷ 1 ∷ 0 ∷ [])) (ascii "refused 4 at 2\n")
+    ++ numbers-are (sheetText []) (ascii "refused 1 at 0\n")
+    ++ numbers-are (sheetText (1 ∷ 0 ∷ 0 ∷ 1 ∷ 0 ∷ 2 ∷ [])) (ascii "refused 2 at 0\n")
+
+-- known ways to get it wrong: the gates of P2 in the order found; C2 for 2 to 1 in row 1; C1 reduced with C2
+abbrev known-ways : List Case
+known-ways =
+    numbers-are (tableOf 1 (gatesOf (x0 E no-control ++ x0 D no-control))) (2 ∷ 0 ∷ 1 ∷ [])
+    ++ numbers-are (bytes-for 1 (0 ∷ 2 ∷ 1 ∷ [])) (x0 D no-control)
+    ++ tidies 2 (x0 C1 0 ++ x0 C2 1) (accepted (2 ∷ 0 ∷ [])) (x0 C1 0 ++ x0 C2 1)
+
 -- room 13 at n 2: 5 at 14, also where only a byte is missing from 14
 abbrev rooms : List Case
 rooms =
@@ -200,12 +214,11 @@ long-cascades =
     ++ answer-is (checkAnswer 1 (joined (replicate 8001 zero-record))) (refused 6 0)
     ++ answer-is (checkAnswer 1 (joined (replicate 8000 zero-record))) (refused 7 0)
 
--- the numbers that document 01 prints: the room asked for 1 to 6 lines, the base cost of 0 to 5 controls
-abbrev printed-rows : List Case
-printed-rows =
-    numbers-are (span bound 1 6) (2 ∷ 14 ∷ 68 ∷ 284 ∷ 1094 ∷ 4010 ∷ []) ++ numbers-are (span base 0 6) (1 ∷ 1 ∷ 5 ∷ 15 ∷ 35 ∷ 75 ∷ [])
+-- the base cost of 0 to 5 controls
+abbrev base-costs : List Case
+base-costs = numbers-are (span base 0 6) (1 ∷ 1 ∷ 5 ∷ 15 ∷ 35 ∷ 75 ∷ [])
 
 abbrev pub cases : List Case
 cases =
     P1 ++ P2 ++ P3 ++ P4 ++ P5 ++ P6 ++ P7 ++ P8 ++ P9 ++ P10 ++ P11 ++ P12 ++ P13
-    ++ vector-003 ++ rooms ++ short-cascades ++ long-cascades ++ printed-rows
+    ++ vector-003 ++ refusal-lines ++ known-ways ++ rooms ++ short-cascades ++ long-cascades ++ base-costs
