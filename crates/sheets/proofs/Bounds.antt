@@ -23,7 +23,7 @@ use Rattle.synthesis.proofs.Synthesis.{bound-most, synthesized-bound, synthesiz
 use Rattle.texts.proofs.Decimals.{width-most}
 use Rattle.listings.proofs.Lengths.{listing-lines}
 use Rattle.sheets.specs.Sheets.{linesOf, entriesOf, fileAnswer, sheetText, sheetAnswer, sheetRoom}
-use Rattle.sheets.proofs.Answers.{file-lines, file-broken, file-whole, refusal-parts, refusal-length, text-listing}
+use Rattle.sheets.proofs.SheetAnswers.{file-lines, file-broken, file-whole, refusal-parts, refusal-length, text-listing}
 
 -- the file is refused
 pub record FileRefused (f : List ℕ) : Type 0 where

@@ -1,2 +1,2 @@
-pub mod Answers
+pub mod SheetAnswers
 pub mod Bounds

@@ -14,7 +14,7 @@ use Rattle.cascades.specs.Answers.{countedAs}
 use Rattle.cascades.proofs.Stored.{length-bytes}
 use Rattle.synthesis.specs.Synthesis.{synthesized}
 use Rattle.synthesis.proofs.Synthesis.{synthesized-bound}
-use Rattle.sheets.proofs.Answers.{made-refused, made-permutation, made-count, made-room, listing-sheet, room-sheet}
+use Rattle.sheets.proofs.SheetAnswers.{made-refused, made-permutation, made-count, made-room, listing-sheet, room-sheet}
 use borrow.Author.Needs.{needs}
 use Rattle.sheets.proofs.list_table.Statement.{statement}
 use Rattle.sheets.proofs.list_table.Tie as tie

@@ -4,7 +4,7 @@ use mathlib.Core.Bool.{true}
 use borrow.Author.Tests.{not-true, not-false}
 use Rattle.card.specs.Card.{linesOk}
 use Rattle.card.proofs.Cards.{lines-are}
-use Rattle.sheets.proofs.Answers.{file-lines, file-broken}
+use Rattle.sheets.proofs.SheetAnswers.{file-lines, file-broken}
 use borrow.Author.Needs.{needs}
 use Rattle.sheets.proofs.sheet.Statement.{statement}
 use Rattle.sheets.proofs.sheet.Tie as tie

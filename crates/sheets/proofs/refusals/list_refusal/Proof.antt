@@ -5,7 +5,7 @@ use lib.ListN.{length}
 use native.Mathlib.Omega.{arith}
 use Rattle.texts.proofs.Decimals.{few-digits}
 use Rattle.sheets.specs.Sheets.{sheetText}
-use Rattle.sheets.proofs.Answers.{refusal-length, sheet-small, sheet-written}
+use Rattle.sheets.proofs.SheetAnswers.{refusal-length, sheet-small, sheet-written}
 use borrow.Author.Needs.{needs}
 use Rattle.sheets.proofs.refusals.list_refusal.Statement.{statement}
 use Rattle.sheets.proofs.refusals.list_refusal.Tie as tie

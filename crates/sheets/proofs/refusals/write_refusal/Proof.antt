@@ -7,7 +7,7 @@ use lib.ListN.{length}
 use Rattle.texts.specs.Texts.{ascii, decimal}
 use Rattle.texts.proofs.Writes.{Writing, writing-start, writing-next, writing-last, left-fits, piece-fits, first-fits}
 use Rattle.sheets.specs.Sheets.{sheetText}
-use Rattle.sheets.proofs.Answers.{refusal-parts}
+use Rattle.sheets.proofs.SheetAnswers.{refusal-parts}
 use borrow.Author.Needs.{needs}
 use Rattle.sheets.proofs.refusals.write_refusal.Statement.{statement}
 use Rattle.sheets.proofs.refusals.write_refusal.Tie as tie
