@@ -1,5 +1,5 @@
 // What the program prints of each file that an argument names, under the file's name.
-fn print_case(name: &[u8]) {
+fn print_file(name: &[u8]) {
     io::write_all(1, name);
     io::write_all(1, b"\n");
     let input = os::open_read(name);
@@ -7,17 +7,17 @@ fn print_case(name: &[u8]) {
     libc::close(input);
 }
 
-fn print_named(i: usize) {
+fn print_argument(i: usize) {
     let mut name = io::buffer();
     let n = os::arg(i, &mut name);
-    print_case(&name[..n]);
+    print_file(&name[..n]);
 }
 
 fn main() {
     let count = os::arg_count();
     let mut i = 1;
     while i < count {
-        print_named(i);
+        print_argument(i);
         i += 1;
     }
 }

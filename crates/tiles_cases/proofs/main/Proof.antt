@@ -16,8 +16,8 @@ arg-count-requires c κs = tt
 loop-holds : tie.Need-loop-holds Inv-loop μ-loop
 loop-holds c = tt
 
-print-named-requires : tie.Need-print-named-requires Inv-loop μ-loop
-print-named-requires c κs = tt
+print-argument-requires : tie.Need-print-argument-requires Inv-loop μ-loop
+print-argument-requires c κs = tt
 
 add-i : tie.Need-add-i Inv-loop μ-loop
 add-i c = omega arith
@@ -39,7 +39,7 @@ main-spec =
     μ-loop
     arg-count-requires
     loop-holds
-    print-named-requires
+    print-argument-requires
     add-i
     loop-less
     loop-again
