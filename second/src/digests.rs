@@ -41,16 +41,12 @@ pub fn report() -> Answer<String> {
     text += &families("dense", 200, CASCADES_DRAWN, |draws, lines, _| {
         draws.dense_cascade(lines, GATES, KINDS)
     })?;
-    Ok(text)
-}
-
-/// Prints the families of long dense cascades. In every second one all gates pass each
-/// other.
-pub fn report_long() -> Answer<String> {
-    families("long", 300, LONG_DRAWN, |draws, lines, number| match number % 2 {
+    // In every second long one all gates pass each other.
+    text += &families("long", 300, LONG_DRAWN, |draws, lines, number| match number % 2 {
         0 => draws.dense_cascade(lines, MOST_GATES, KINDS),
         _ => draws.passing_cascade(lines, MOST_GATES, PASSING_KINDS),
-    })
+    })?;
+    Ok(text)
 }
 
 /// A family for 3 to 6 lines, with as many cascades as `drawn` says, which are counted

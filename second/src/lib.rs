@@ -27,7 +27,8 @@
 //! The other modules are for comparing this library with the first: [`calls`] has
 //! every call in one shape, [`vectors`] says how test cases are written and what
 //! they print, [`cases`](mod@cases) lists them, [`digests`] sums up many tables and
-//! cascades, and [`draws`] and [`hard`] make some of these up.
+//! cascades, [`draws`] and [`hard`] make some of these up, and [`turns`] is what a
+//! reader hands out, in print.
 
 #![forbid(unsafe_code)]
 
@@ -50,4 +51,5 @@ pub mod synthesis;
 pub mod table;
 pub mod tabulating;
 pub mod tidying;
+pub mod turns;
 pub mod vectors;

@@ -1,13 +1,14 @@
 //! The program. `second sheet < tablefile` prints the listing of the table's
 //! cascade, or the refusal. The others are for comparing programs: `cases`
-//! writes test cases, `vectors` reads them and prints what each must answer, and
-//! `digests` and `digests-long` print sums over many tables and cascades.
+//! writes test cases, `vectors` reads them and prints what each must answer,
+//! `digests` prints sums over many tables and cascades, and `turns < cascadefile`
+//! prints what a reader hands out.
 
 use std::io::{self, Read, Write};
 use std::process::ExitCode;
 
 use second::answer::Answer;
-use second::{cases, digests, sheet, vectors};
+use second::{cases, digests, sheet, turns, vectors};
 
 fn main() -> ExitCode {
     let arguments: Vec<_> = std::env::args_os().skip(1).collect();
@@ -16,13 +17,13 @@ fn main() -> ExitCode {
         [what] if what == "cases" => print(&vectors::write_cases(&cases::cases())),
         [what] if what == "vectors" => print_vectors(),
         [what] if what == "digests" => print_digests(digests::report()),
-        [what] if what == "digests-long" => print_digests(digests::report_long()),
+        [what] if what == "turns" => print_turns(),
         _ => {
             eprintln!("use: second sheet < tablefile");
             eprintln!("     second cases > casefile");
             eprintln!("     second vectors < casefile");
             eprintln!("     second digests");
-            eprintln!("     second digests-long");
+            eprintln!("     second turns < cascadefile");
             return ExitCode::from(2);
         }
     };
@@ -54,6 +55,12 @@ fn print_vectors() -> io::Result<()> {
         return Err(io::Error::other("these are no cases"));
     };
     print(vectors::lines(&cases).as_bytes())
+}
+
+fn print_turns() -> io::Result<()> {
+    let mut file = Vec::new();
+    io::stdin().lock().read_to_end(&mut file)?;
+    print(turns::text(&file).as_bytes())
 }
 
 fn print_digests(report: Answer<String>) -> io::Result<()> {

@@ -1,10 +1,11 @@
-// The families: every table on two lines, drawn tables, and drawn cascades, dense or not.
+// The families: every table on two lines, drawn tables, and drawn cascades.
 // A family's loop works in lent arrays; the function that lends them prints its sums.
 ghost use Prim.Native.Nat.{_<_, _≤_};
 ghost use lib.ListN.{length};
 use crate::adding::add_cascade;
 use crate::adding::add_table;
 use crate::sums::Sums;
+use drawing::draws::Manner;
 
 // All tables on two lines, from the identity on: 9! = 362,880 of them.
 fn sum_all_tables(
@@ -54,9 +55,34 @@ fn sum_drawn_tables(
     sums
 }
 
+// How the cascades of a family are drawn: gate by gate, dense, or dense and passing in turn.
+pub enum Kind {
+    Single,
+    Dense,
+    Turns,
+}
+
+// The cascade of a family with this number, counted from 0.
+fn draw_numbered(kind: Kind, number: u32, state: u32, lines: u8, cascade: &mut [u8]) -> u32
+    requires { ⌜ (0 < lines) × (lines ≤ 6) ⌝ }
+{
+    let manner = match kind {
+        Kind::Single => Manner::Single,
+        Kind::Dense => Manner::Dense,
+        Kind::Turns => {
+            if number % 2 == 0 {
+                Manner::Dense
+            } else {
+                Manner::Passing
+            }
+        }
+    };
+    drawing::draws::draw_cascade(manner, state, lines as usize, cascade)
+}
+
 // Drawn cascades, each as long as the lent bytes.
 fn sum_cascades(
-    dense: bool,
+    kind: Kind,
     drawn: Drawn,
     cascade: &mut [u8],
     inverse: &mut [u8],
@@ -68,7 +94,7 @@ fn sum_cascades(
     let mut state = drawn.seed;
     let mut left = drawn.count;
     while 0 < left {
-        state = drawing::draws::draw_cascade(dense, state, drawn.lines as usize, cascade);
+        state = draw_numbered(kind, drawn.count - left, state, drawn.lines, cascade);
         sums = add_cascade(sums, drawn.lines, cascade, inverse, entries);
         left = left - 1;
     }
@@ -105,14 +131,27 @@ pub fn print_drawn_tables(lines: u8, seed: u32, count: u32)
     crate::printing::print_family(b"tables ", lines, sums);
 }
 
-// Cascades of 60 gates, each drawn by itself, or dense: each one of eight kinds.
-pub fn print_cascades(name: &[u8], dense: bool, lines: u8, seed: u32, count: u32)
+// Cascades of 60 gates.
+pub fn print_cascades(name: &[u8], kind: Kind, lines: u8, seed: u32, count: u32)
     requires { ⌜ (0 < lines) × (lines ≤ 6) ⌝ }
 {
     let mut cascade = [0u8; 480];
     let mut inverse = [0u8; 480];
     let mut entries = [0u16; 729];
     let drawn = Drawn { lines, seed, count };
-    let sums = sum_cascades(dense, drawn, &mut cascade, &mut inverse, &mut entries);
+    let sums = sum_cascades(kind, drawn, &mut cascade, &mut inverse, &mut entries);
     crate::printing::print_family(name, lines, sums);
+}
+
+// Cascades of 8,000 gates.
+pub fn print_long_cascades(lines: u8, seed: u32, count: u32)
+    requires { ⌜ (0 < lines) × (lines ≤ 6) ⌝ }
+{
+    let mut cascade = [0u8; 64000];
+    let mut inverse = [0u8; 64000];
+    let mut entries = [0u16; 729];
+    let drawn = Drawn { lines, seed, count };
+    let kind = Kind::Turns;
+    let sums = sum_cascades(kind, drawn, &mut cascade, &mut inverse, &mut entries);
+    crate::printing::print_family(b"long ", lines, sums);
 }

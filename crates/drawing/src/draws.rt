@@ -1,4 +1,4 @@
-// What is drawn by the generator: tables, gates, cascades, and cascades dense with gates of few kinds.
+// What is drawn by the generator: tables, gates, and cascades, each gate by itself or of few kinds.
 // Each function takes the generator's state, and answers with the state after its last draw.
 ghost use Prim.Native.Nat.{_+_, _<_, _≤_};
 ghost use lib.ListN.{length};
@@ -75,28 +75,58 @@ fn draw_controls(state: u32, lines: usize, target: usize, room: &mut [u8], at: u
     s
 }
 
-// A gate's record: the target is drawn first, then the operator, then the controls.
-fn draw_gate(state: u32, lines: usize, room: &mut [u8], at: usize) -> u32
-    requires { ⌜ (0 < lines) × (lines ≤ 6) × (at + 8 ≤ length (now room)) ⌝ }
+// A gate's record on a target that was drawn: the operator, then the controls.
+fn draw_on(state: u32, lines: usize, target: usize, room: &mut [u8], at: usize) -> u32
+    requires { ⌜ (target ≤ 5) × (at + 8 ≤ length (now room)) ⌝ }
 {
-    let first = advance(state);
-    let target = below(first, lines);
-    let second = advance(first);
-    let operator = below(second, 5) + 1;
+    let s = advance(state);
+    let operator = below(s, 5) + 1;
     room[at] = operator as u8;
     room[at + 1] = target as u8;
-    draw_controls(second, lines, target, room, at + 2)
+    draw_controls(s, lines, target, room, at + 2)
+}
+
+// A gate on that target becomes a C1 or a C2 on the last line, whose control goes to the line that was its target: all such gates pass each other.
+fn make_passing(lines: usize, target: usize, room: &mut [u8], at: usize)
+    requires { ⌜ (target < lines) × (lines ≤ 6) × (at + 8 ≤ length (now room)) ⌝ }
+{
+    let operator = 2 - room[at] % 2;
+    let control = room[at + 1 + lines];
+    room[at] = operator;
+    room[at + 1] = (lines - 1) as u8;
+    room[at + 2 + target] = control;
+    room[at + 1 + lines] = 3;
+}
+
+// A gate's record: the target is drawn first.
+fn draw_gate(passing: bool, state: u32, lines: usize, room: &mut [u8], at: usize) -> u32
+    requires { ⌜ (0 < lines) × (lines ≤ 6) × (at + 8 ≤ length (now room)) ⌝ }
+{
+    let s = advance(state);
+    let target = below(s, lines);
+    let drawn = draw_on(s, lines, target, room, at);
+    if passing {
+        make_passing(lines, target, room, at);
+    }
+    drawn
+}
+
+// How a cascade is drawn: gate by gate, or out of a few kinds, which are drawn before it and may be such that all pass each other.
+pub enum Manner {
+    Single,
+    Dense,
+    Passing,
 }
 
 // Gates that fill the room.
-fn draw_gates(state: u32, lines: usize, room: &mut [u8]) -> u32
+fn draw_gates(passing: bool, state: u32, lines: usize, room: &mut [u8]) -> u32
     requires { ⌜ (0 < lines) × (lines ≤ 6) ⌝ }
 {
     let count = room.len() / 8;
     let mut s = state;
     let mut i: usize = 0;
     while i < count {
-        s = draw_gate(s, lines, room, 8 * i);
+        s = draw_gate(passing, s, lines, room, 8 * i);
         i = i + 1;
     }
     s
@@ -113,34 +143,46 @@ fn copy_record(records: &[u8], from: usize, room: &mut [u8], to: usize)
     }
 }
 
-// Gates that fill the room, each of one of eight kinds.
-fn draw_kinds(state: u32, kinds: &[u8; 64], room: &mut [u8]) -> u32 {
+// Gates that fill the room, each one of the kinds.
+fn mix_kinds(state: u32, kinds: &[u8], room: &mut [u8]) -> u32
+    requires { ⌜ 8 ≤ length (now kinds) ⌝ }
+{
     let count = room.len() / 8;
     let mut s = state;
     let mut i: usize = 0;
     while i < count {
         s = advance(s);
-        copy_record(kinds, 8 * below(s, 8), room, 8 * i);
+        copy_record(kinds, 8 * below(s, kinds.len() / 8), room, 8 * i);
         i = i + 1;
     }
     s
 }
 
-// A cascade that fills the room, with gates of eight kinds, which are drawn before it.
+// A cascade that fills the room, out of eight kinds.
 fn draw_dense(state: u32, lines: usize, room: &mut [u8]) -> u32
     requires { ⌜ (0 < lines) × (lines ≤ 6) ⌝ }
 {
     let mut kinds = [0u8; 64];
-    let drawn = draw_gates(state, lines, &mut kinds);
-    draw_kinds(drawn, &kinds, room)
+    let drawn = draw_gates(false, state, lines, &mut kinds);
+    mix_kinds(drawn, &kinds, room)
+}
+
+// A cascade that fills the room, out of forty kinds that all pass each other.
+fn draw_passing(state: u32, lines: usize, room: &mut [u8]) -> u32
+    requires { ⌜ (0 < lines) × (lines ≤ 6) ⌝ }
+{
+    let mut kinds = [0u8; 320];
+    let drawn = draw_gates(true, state, lines, &mut kinds);
+    mix_kinds(drawn, &kinds, room)
 }
 
 // A cascade that fills the room.
-pub fn draw_cascade(dense: bool, state: u32, lines: usize, room: &mut [u8]) -> u32
+pub fn draw_cascade(manner: Manner, state: u32, lines: usize, room: &mut [u8]) -> u32
     requires { ⌜ (0 < lines) × (lines ≤ 6) ⌝ }
 {
-    if dense {
-        return draw_dense(state, lines, room);
+    match manner {
+        Manner::Single => draw_gates(false, state, lines, room),
+        Manner::Dense => draw_dense(state, lines, room),
+        Manner::Passing => draw_passing(state, lines, room),
     }
-    draw_gates(state, lines, room)
 }

@@ -1,16 +1,17 @@
 -- `digests::families::sum_cascades` is safe and ends: what is left of the count falls, and the lent arrays keep their lengths. Assumes nothing.
 use mathlib.Core.Path.{_≡_}
+use Prim.Native.Nat.{_≤_}
 use lib.ListN.{length}
 use borrow.Author.Needs.{needs}
 use Rattle.digests.proofs.families.sum_cascades.Statement.{statement}
 use Rattle.digests.proofs.families.sum_cascades.Tie as tie
 
 abbrev Inv-loop : tie.InvT-loop
-Inv-loop dense drawn cascade₀ inverse₀ entries₀ sums₀ state₀ left₀ cascade inverse entries sums state left =
-    (length cascade ≡ length cascade₀) × (length inverse ≡ length inverse₀) × (length entries ≡ length entries₀)
+Inv-loop kind drawn cascade₀ inverse₀ entries₀ sums₀ state₀ left₀ cascade inverse entries sums state left =
+    (length cascade ≡ length cascade₀) × (length inverse ≡ length inverse₀) × (length entries ≡ length entries₀) × (left ≤ drawn .count)
 
 abbrev μ-loop : tie.MeasureT-loop
-μ-loop dense drawn cascade₀ inverse₀ entries₀ sums₀ state₀ left₀ cascade inverse entries sums state left = left
+μ-loop kind drawn cascade₀ inverse₀ entries₀ sums₀ state₀ left₀ cascade inverse entries sums state left = left
 
 nothing-requires : tie.Need-nothing-requires Inv-loop μ-loop
 nothing-requires c κs = search needs
@@ -18,11 +19,11 @@ nothing-requires c κs = search needs
 loop-holds : tie.Need-loop-holds Inv-loop μ-loop
 loop-holds c = search needs
 
-cast-draw-cascade : tie.Need-cast-draw-cascade Inv-loop μ-loop
-cast-draw-cascade c = search needs
+sub-draw-numbered : tie.Need-sub-draw-numbered Inv-loop μ-loop
+sub-draw-numbered c = search needs
 
-draw-cascade-requires : tie.Need-draw-cascade-requires Inv-loop μ-loop
-draw-cascade-requires c κs = search needs
+draw-numbered-requires : tie.Need-draw-numbered-requires Inv-loop μ-loop
+draw-numbered-requires c κs = search needs
 
 add-cascade-requires : tie.Need-add-cascade-requires Inv-loop μ-loop
 add-cascade-requires c κs = search needs
@@ -56,8 +57,8 @@ sum-cascades-spec =
     μ-loop
     nothing-requires
     loop-holds
-    cast-draw-cascade
-    draw-cascade-requires
+    sub-draw-numbered
+    draw-numbered-requires
     add-cascade-requires
     sub-left
     loop-less

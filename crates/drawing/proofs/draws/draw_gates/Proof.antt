@@ -7,10 +7,10 @@ use Rattle.drawing.proofs.draws.draw_gates.Statement.{statement}
 use Rattle.drawing.proofs.draws.draw_gates.Tie as tie
 
 abbrev Inv-loop : tie.InvT-loop
-Inv-loop state lines room₀ count s₀ i₀ room s i = (length room ≡ length room₀) × (8 * count ≤ length room)
+Inv-loop passing state lines room₀ count s₀ i₀ room s i = (length room ≡ length room₀) × (8 * count ≤ length room)
 
 abbrev μ-loop : tie.MeasureT-loop
-μ-loop state lines room₀ count s₀ i₀ room s i = count - i
+μ-loop passing state lines room₀ count s₀ i₀ room s i = count - i
 
 loop-holds : tie.Need-loop-holds Inv-loop μ-loop
 loop-holds c = search needs

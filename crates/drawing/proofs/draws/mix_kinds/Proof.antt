@@ -1,11 +1,11 @@
--- `drawing::draws::draw_kinds` is safe and ends: each record lies within the room, which keeps its length, and each kind within the kinds. Assumes
+-- `drawing::draws::mix_kinds` is safe and ends: each record lies within the room, which keeps its length, and each kind within the kinds. Assumes
 -- nothing.
 use mathlib.Core.Path.{_≡_}
 use Prim.Native.Nat.{_-_, _*_, _≤_}
 use lib.ListN.{length}
 use borrow.Author.Needs.{needs}
-use Rattle.drawing.proofs.draws.draw_kinds.Statement.{statement}
-use Rattle.drawing.proofs.draws.draw_kinds.Tie as tie
+use Rattle.drawing.proofs.draws.mix_kinds.Statement.{statement}
+use Rattle.drawing.proofs.draws.mix_kinds.Tie as tie
 
 abbrev Inv-loop : tie.InvT-loop
 Inv-loop state kinds room₀ count s₀ i₀ room s i = (length room ≡ length room₀) × (8 * count ≤ length room)
@@ -46,8 +46,8 @@ same-length c = search needs
 returns : tie.Need-returns Inv-loop μ-loop
 returns c = search needs
 
-pub draw-kinds-spec : {M : Type 1} → statement M
-draw-kinds-spec =
+pub mix-kinds-spec : {M : Type 1} → statement M
+mix-kinds-spec =
     tie.close
     (tie.spec
     Inv-loop

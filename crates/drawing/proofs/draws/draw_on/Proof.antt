@@ -1,21 +1,15 @@
--- `drawing::draws::draw_gate` is safe: eight bytes lie behind the place, and stores keep the length. Assumes nothing.
+-- `drawing::draws::draw_on` is safe: eight bytes lie behind the place, and stores keep the length. Assumes nothing.
 use lib.ListN.{length-set}
 use native.Mathlib.Omega.{arith}
 use borrow.Author.Needs.{needs}
-use Rattle.drawing.proofs.draws.draw_gate.Statement.{statement}
-use Rattle.drawing.proofs.draws.draw_gate.Tie as tie
+use Rattle.drawing.proofs.draws.draw_on.Statement.{statement}
+use Rattle.drawing.proofs.draws.draw_on.Tie as tie
 
 advance-requires : tie.Need-advance-requires
 advance-requires c κs = search needs
 
 below-requires : tie.Need-below-requires
 below-requires c κs = search needs
-
-advance-requires-2 : tie.Need-advance-requires-2
-advance-requires-2 c κs = search needs
-
-below-requires-2 : tie.Need-below-requires-2
-below-requires-2 c κs = search needs
 
 add-operator : tie.Need-add-operator
 add-operator c = search needs
@@ -47,14 +41,12 @@ same-length c = rw (length-set, length-set) at (c .before .before .draw-controls
 returns : tie.Need-returns
 returns c = search needs
 
-pub draw-gate-spec : {M : Type 1} → statement M
-draw-gate-spec =
+pub draw-on-spec : {M : Type 1} → statement M
+draw-on-spec =
     tie.close
     (tie.spec
     advance-requires
     below-requires
-    advance-requires-2
-    below-requires-2
     add-operator
     cast-room
     slice-write-room
