@@ -55,6 +55,26 @@ fn it_writes_cases_and_prints_their_lines() {
     assert_eq!(refused.stderr, b"second: these are no cases\n");
 }
 
+/// N x0 where x1 holds 2, and E x1 where x0 holds 0: a control's value has weight 1 on
+/// x0 and 4 on x1, and 3 is none.
+#[test]
+fn it_prints_what_a_reader_hands_out() {
+    let records = [3, 0, 3, 2, 3, 3, 3, 3, 5, 1, 0, 3, 3, 3, 3, 3];
+    let mut file = b"a note".to_vec();
+    file.extend(records);
+    file.extend([16, 0, 0, 0, 2, 0, 2, 1]);
+    let printed = |file: &[u8]| {
+        let output = program(&["turns"], file);
+        assert!(output.status.success());
+        String::from_utf8(output.stdout).unwrap()
+    };
+    assert_eq!(printed(&file), "gate 3 0 4091\ngate 5 1 4092\nend\nend\n");
+    // A refused file gives a reader of no lines.
+    file[7 + 8] = 9;
+    assert_eq!(printed(&file), "refused 1 at 0\n".repeat(4));
+    assert_eq!(printed(&[]), "refused 1 at 0\n");
+}
+
 #[test]
 fn it_says_how_it_is_used() {
     for arguments in [&[][..], &["table"], &["sheet", "more"], &["cases", "vectors"]] {

@@ -16,8 +16,14 @@ arg-count-requires c κs = tt
 loop-holds : tie.Need-loop-holds Inv-loop μ-loop
 loop-holds c = tt
 
-print-argument-requires : tie.Need-print-argument-requires Inv-loop μ-loop
-print-argument-requires c κs = tt
+open-argument-requires : tie.Need-open-argument-requires Inv-loop μ-loop
+open-argument-requires c κs = tt
+
+print-sheet-requires : tie.Need-print-sheet-requires Inv-loop μ-loop
+print-sheet-requires c κs = tt
+
+close-requires : tie.Need-close-requires Inv-loop μ-loop
+close-requires c κs = tt
 
 add-i : tie.Need-add-i Inv-loop μ-loop
 add-i c = omega arith
@@ -39,7 +45,9 @@ main-spec =
     μ-loop
     arg-count-requires
     loop-holds
-    print-argument-requires
+    open-argument-requires
+    print-sheet-requires
+    close-requires
     add-i
     loop-less
     loop-again
