@@ -6,8 +6,8 @@ use Prim.Native.Nat.{ℕ, _+_, _≤_, _<_}
 use native.Mathlib.Nat.{zero-add}
 use native.Mathlib.Omega.{arith}
 use lib.Dec.{leb}
-use lib.ListN.{length, drop, length-append, length-drop}
-use lib.Seq.{sets, sets-eq}
+use lib.ListN.{length, take, drop, length-append, length-drop}
+use lib.Seq.{sets, sets-eq, take-at}
 use borrow.Author.Tests.{leb-true, le-leb}
 use Rattle.ranges.proofs.Bools.{and-left, and-right}
 use Rattle.card.specs.Card.{Answer, Answer.accepted, Answer.refused, refusing, linesOk, onLines, after, laid}
@@ -32,6 +32,12 @@ refusing-yes bad k p x e = rw e
 pub refusing-no : (bad : Bool) (k p : ℕ) (x : Answer) → bad ≡ false → refusing bad k p x ≡ x
 unfolding refusing
 refusing-no bad k p x e = rw e
+
+-- what is accepted was passed over
+pub refusing-passed : (bad : Bool) (k p : ℕ) (x : Answer) (vs : List ℕ) → refusing bad k p x ≡ accepted vs → (bad ≡ false) × (x ≡ accepted vs)
+unfolding refusing
+refusing-passed true k p x vs e = not-accepted k p vs e
+refusing-passed false k p x vs e = (refl, e)
 
 pub no-lines : (n : ℕ) (x : Answer) → linesOk n ≡ false → onLines n x ≡ refused 1 0
 unfolding onLines
@@ -63,6 +69,11 @@ unfolding laid
 sets-laid xs room le =
     let s : sets room 0 xs ≡ xs ++ drop (0 + length xs) room = sets-eq xs room 0 (omega arith) in
     rw (zero-add (length xs)) at s
+
+-- the start of a room is what was laid there
+pub laid-front : (k : ℕ) (xs room : List ℕ) → length xs ≡ k → take k (laid xs room) ≡ xs
+unfolding laid
+laid-front k xs room e = take-at xs (drop (length xs) room) k e
 
 pub length-laid : (xs room : List ℕ) → length xs ≤ length room → length (laid xs room) ≡ length room
 unfolding laid

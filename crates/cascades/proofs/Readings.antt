@@ -1,22 +1,26 @@
--- The records of a cascade read back: they are whole records, each a gate on n lines (`bytes-whole`), and their gates are the cascade (`bytes-gates`).
+-- The records of a cascade read back: they are whole records, each a gate on n lines (`bytes-whole`), and their gates are the cascade (`bytes-gates`);
+-- and the records of the gates that were read are the bytes (`bytes-again`).
 -- It rests on a record's being decided by its 8 bytes alone. Assumes nothing.
-use mathlib.Core.Path.{_≡_, _∙_}
+use mathlib.Core.Path.{_≡_, refl, sym, ap, _∙_}
 use mathlib.Core.Bool.{true}
 use mathlib.Core.List.{List, [], _∷_, _++_, append-nil}
 use Prim.Native.Nat.{ℕ, zero, suc, _+_, _*_, _≤_, _<_}
 use native.Mathlib.Nat.{add-zero, add-assoc}
 use native.Mathlib.Omega.{arith}
 use lib.ListN.{length, getD, drop, length-append, drop-of-length-le}
-use lib.Seq.{getD-append-add}
+use lib.Seq.{sets, getD-append-add}
 use borrow.Author.Tests.{le-leb}
 use Rattle.ranges.specs.Ranges.{span}
 use Rattle.ranges.specs.Lists.{Each}
 use Rattle.ranges.proofs.Tests.{every-ext}
+use Rattle.ranges.proofs.Spans.{length-span}
+use Rattle.ranges.proofs.Stores.{sets-append}
 use Rattle.card.specs.Card.{linesOk, laid}
+use Rattle.card.proofs.Cards.{sets-laid}
 use Rattle.gates.specs.declared.Gate.{Gate}
 use Rattle.gates.specs.Gates.{IsGate}
 use Rattle.gates.specs.Records.{lineOk, linesOkAt, isRecord, recordOf}
-use Rattle.gates.proofs.Records.{length-record, record-written}
+use Rattle.gates.proofs.Records.{length-record, record-written, encode-decode}
 use Rattle.cascades.specs.Cascades.{gateIn, records, gatesOf, bytesOf, Cascade}
 use Rattle.cascades.specs.Inner.Checked.{Whole}
 use Rattle.cascades.proofs.Stored.{length-bytes, laid-gates}
@@ -61,3 +65,23 @@ bytes-gates n gs each =
     let count : records (bytesOf gs) ≡ length gs = omega (arith, length-bytes gs) in
     let read : span (gateIn (laid (bytesOf gs) (bytesOf gs))) 0 (length gs) ≡ gs = laid-gates n gs (bytesOf gs) each (omega (arith, length-bytes gs)) in
     rw count (rw (all, append-nil) at read)
+
+-- stored where they were read, the records from the i-th on change nothing
+stored-again : (n : ℕ) (b : List ℕ) (m : ℕ) → Whole n b m → (k i : ℕ) → i + k ≡ m → sets b (8 * i) (bytesOf (span (gateIn b) i k)) ≡ b
+unfolding bytesOf span
+stored-again n b m w zero i e = refl
+stored-again n b m w (suc k) i e =
+    let next : 8 * i + 8 ≡ 8 * (i + 1) = omega arith in
+    sets-append (recordOf (gateIn b i)) (bytesOf (span (gateIn b) (i + 1) k)) b (8 * i)
+    ∙ rw (encode-decode n b (8 * i) (w .each i (omega arith)), length-record, next) (stored-again n b m w k (i + 1) (omega arith))
+
+pub bytes-again : (n : ℕ) (b : List ℕ) (m : ℕ) → Whole n b m → bytesOf (gatesOf b) ≡ b
+unfolding gatesOf laid
+bytes-again n b m w =
+    let count : records b ≡ m = omega (arith, w .size) in
+    let long : length (bytesOf (span (gateIn b) 0 (records b))) ≡ length b = length-bytes (span (gateIn b) 0 (records b)) ∙ rw (length-span, count) (sym (w .size)) in
+    let rest : drop (length (bytesOf (span (gateIn b) 0 (records b)))) b ≡ [] = drop-of-length-le b {i = length (bytesOf (span (gateIn b) 0 (records b)))} (omega (arith, long)) in
+    sym (append-nil (bytesOf (span (gateIn b) 0 (records b))))
+    ∙ ap (λ (x : List ℕ). bytesOf (span (gateIn b) 0 (records b)) ++ x) (sym rest)
+    ∙ sym (sets-laid (bytesOf (span (gateIn b) 0 (records b))) b (omega (arith, long)))
+    ∙ stored-again n b m w (records b) 0 (omega (arith, count))

@@ -1,6 +1,6 @@
 -- Where a call accepts, what it has written lies within the room that was lent to it. Assumes nothing.
-use mathlib.Core.Path.{_≡_, refl, sym, _∙_}
-use mathlib.Core.Bool.{Bool, true, false}
+use mathlib.Core.Path.{_≡_, sym, _∙_}
+use mathlib.Core.Bool.{Bool, false}
 use mathlib.Core.Logic.{_⊎_}
 use mathlib.Core.List.{List, [], _∷_}
 use Prim.Native.Nat.{ℕ, _*_, _/_, _^_, _≤_}
@@ -8,8 +8,8 @@ use native.Mathlib.Omega.{arith}
 use lib.Dec.{ltb}
 use lib.ListN.{length}
 use borrow.Author.Tests.{ltb-false, not-false}
-use Rattle.card.specs.Card.{Answer, Answer.accepted, Answer.refused, refusing, onLines}
-use Rattle.card.proofs.Cards.{lines-are}
+use Rattle.card.specs.Card.{Answer, Answer.accepted, refusing, onLines}
+use Rattle.card.proofs.Cards.{lines-are, not-accepted, refusing-passed}
 use Rattle.tables.specs.Permutations.{Permutation}
 use Rattle.tables.specs.Tables.{onTable}
 use Rattle.tables.proofs.Accepts.{Refuses, on-table-is, on-table-permutation}
@@ -24,15 +24,9 @@ use Rattle.synthesis.proofs.Synthesis.{synthesized-bound}
 use Rattle.rules.specs.Tidying.{tidied, tidyAnswer}
 use Rattle.rules.proofs.Promises.{tidied-count}
 
--- an accepted answer is no refusal
-not-refused : {A : Type 0} (k p : ℕ) (vs : List ℕ) → accepted vs ≡ refused k p → A
-not-refused k p vs e = let z : _≡_ {A = ℕ} 0 1 = cc in absurd (omega arith)
-
--- it was passed on by each refusal before it
+-- an accepted answer was passed on by each refusal before it
 passed-on : (bad : Bool) (k p : ℕ) (x : Answer) (vs : List ℕ) → accepted vs ≡ refusing bad k p x → (bad ≡ false) × (accepted vs ≡ x)
-unfolding refusing
-passed-on true k p x vs e = not-refused k p vs e
-passed-on false k p x vs e = (refl, e)
+passed-on bad k p x vs e = let h = refusing-passed bad k p x vs (sym e) in (h .0, sym (h .1))
 
 -- by 1, 6 and 7 of a cascade
 beyond : (n : ℕ) (b : List ℕ) (x : Answer) (vs : List ℕ) → accepted vs ≡ onLines n (onCascade n b x) → accepted vs ≡ x
@@ -75,7 +69,7 @@ on-table-on n t x vs e = go (on-table-is (3 ^ n) t)
   where
     go : Permutation (3 ^ n) t ⊎ Refuses (3 ^ n) t → Permutation (3 ^ n) t × (accepted vs ≡ x)
     go (_⊎_.inl perm) = (perm, e ∙ on-table-permutation (3 ^ n) t perm x)
-    go (_⊎_.inr r) = not-refused (r .number) (r .place) vs (e ∙ r .always x)
+    go (_⊎_.inr r) = not-accepted (r .number) (r .place) vs (sym (e ∙ r .always x))
 
 pub synthesized-fits : (n : ℕ) (t : List ℕ) (room m : ℕ) → accepted (m ∷ []) ≡ synthesizeAnswer n t room → 8 * m ≤ room
 unfolding synthesizeAnswer onLines

@@ -7,7 +7,7 @@ use native.Mathlib.Omega.{arith}
 use lib.ListN.{length, take, drop}
 use lib.Seq.{take-at}
 use Rattle.card.specs.Card.{Answer, Answer.accepted, after, laid}
-use Rattle.card.proofs.Cards.{accepted-both}
+use Rattle.card.proofs.Cards.{after-accepted, laid-front}
 use Rattle.cascades.specs.Cascades.{records}
 use Rattle.cascades.specs.Inner.Checked.{Whole}
 use Rattle.files.specs.Files.{fileOf, fileSize, writeAnswer, writeRoom, count, linesIn, startOf, noteOf, recordsOf, readAnswer, readRecords, readNote}
@@ -15,19 +15,10 @@ use Rattle.files.specs.RoundTrips.{Bytes, GivesBack, GivesFile}
 use Rattle.files.proofs.Frames.{Right, fileWith, file-with, length-file, with-lines, with-count, with-start, with-note, with-records, with-right, file-again, length-note, length-records, records-count, parts-end, trailer-fits}
 use Rattle.files.proofs.Transfers.{read-says, read-accepted, write-says, write-accepted}
 
--- the start of a room is what was laid there
-front : (k : ℕ) (xs room : List ℕ) → length xs ≡ k → take k (laid xs room) ≡ xs
-unfolding laid
-front k xs room e = take-at xs (drop (length xs) room) k e
-
--- what an accepted call leaves
-left : (a : Answer) (vs new old : List ℕ) → a ≡ accepted vs → after a new old ≡ new
-left a vs new old e = sym (accepted-both a vs new old new e refl .1)
-
 -- the bytes that were written
 written : (n : ℕ) (b note room : List ℕ) (vs : List ℕ) → writeAnswer n b note (length room) ≡ accepted vs → take (fileSize 8 note b) (writeRoom n b note room) ≡ fileOf n note b
 unfolding writeRoom
-written n b note room vs e = rw (left _ vs (laid (fileOf n note b) room) room e) (front (fileSize 8 note b) (fileOf n note b) room (length-file n note b))
+written n b note room vs e = rw (after-accepted _ vs (laid (fileOf n note b) room) room e) (laid-front (fileSize 8 note b) (fileOf n note b) room (length-file n note b))
 
 read-file-of : (n : ℕ) (b note room noteRoom : List ℕ) → Whole n b (records b) → length note ≤ 1024 → records b ≤ length room / 8 → length note ≤ length noteRoom
     → GivesBack n b note (fileOf n note b) room noteRoom
@@ -43,8 +34,8 @@ read-file-of n b note room noteRoom w short fits fits′ =
     rw (file-with n note b)
     (record {
       answer = answer ∙ rw (lines, many, start);
-      the-records = left _ _ (laid (recordsOf 8 (fileWith [] 1 n note b)) room) room answer ∙ rw bytes;
-      the-note = left _ _ (laid (noteOf 8 (fileWith [] 1 n note b)) noteRoom) noteRoom answer ∙ rw (with-note [] 1 n note b w);
+      the-records = after-accepted _ _ (laid (recordsOf 8 (fileWith [] 1 n note b)) room) room answer ∙ rw bytes;
+      the-note = after-accepted _ _ (laid (noteOf 8 (fileWith [] 1 n note b)) noteRoom) noteRoom answer ∙ rw (with-note [] 1 n note b w);
     })
 
 -- reading what was written
@@ -63,7 +54,7 @@ write-file-of f room bytes r w fits =
     let answer = write-accepted (linesIn f) (recordsOf 8 f) (noteOf 8 f) (length room) (rw (records-count 8 1 f r) w) (rw (length-note 8 1 f r) (r .short-note)) (rw size fits) in
     record {
       answer = answer ∙ rw size;
-      the-file = left _ _ (laid (fileOf (linesIn f) (noteOf 8 f) (recordsOf 8 f)) room) room answer ∙ rw (file-again f r bytes);
+      the-file = after-accepted _ _ (laid (fileOf (linesIn f) (noteOf 8 f) (recordsOf 8 f)) room) room answer ∙ rw (file-again f r bytes);
     }
 
 -- writing what was read
@@ -78,5 +69,5 @@ written-read f recordRoom noteRoom n m k bytes e room fits =
     let em : m ≡ count f = cc (g .is) in
     let ek : k ≡ startOf 8 f = cc (g .is) in
     let long : length (recordsOf 8 f) ≡ 8 * m = length-records 8 1 f r ∙ r .eight ∙ rw em in
-    rw (left _ _ (laid (recordsOf 8 f) recordRoom) recordRoom e, left _ _ (laid (noteOf 8 f) noteRoom) noteRoom e, front (8 * m) (recordsOf 8 f) recordRoom long, front k (noteOf 8 f) noteRoom (length-note 8 1 f r ∙ sym ek), en)
+    rw (after-accepted _ _ (laid (recordsOf 8 f) recordRoom) recordRoom e, after-accepted _ _ (laid (noteOf 8 f) noteRoom) noteRoom e, laid-front (8 * m) (recordsOf 8 f) recordRoom long, laid-front k (noteOf 8 f) noteRoom (length-note 8 1 f r ∙ sym ek), en)
     (write-file-of f room bytes r (g .opens .whole) fits)

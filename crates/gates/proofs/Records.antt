@@ -220,6 +220,25 @@ module _ (g : Gate) (b : List ℕ) (at : ℕ) (fits : at + 8 ≤ length b) where
   unfolding decoded
   decode-encode n six ok = rw (six, record-written n ok) (ap asRecord (gate-written (ok .packed)))
 
+-- ---- a gate's own record
+
+itself : (g : Gate) → sets (recordOf g) 0 (recordOf g) ≡ recordOf g
+unfolding recordOf
+itself g = refl
+
+own-fits : (g : Gate) → 0 + 8 ≤ length (recordOf g)
+own-fits g = omega (arith, length-record g)
+
+pub gate-itself : (g : Gate) → g .controls < 4 ^ 6 → gateAt (recordOf g) 0 ≡ g
+gate-itself g small = subst (λ (b : List ℕ). gateAt b 0 ≡ g) (itself g) (gate-written g (recordOf g) 0 (own-fits g) small)
+
+-- it is one on n lines exactly if the gate is
+pub gate-record : (n : ℕ) (g : Gate) → IsGate n g → isRecord n (recordOf g) 0 ≡ true
+gate-record n g ok = subst (λ (b : List ℕ). isRecord n b 0 ≡ true) (itself g) (record-written g (recordOf g) 0 (own-fits g) n ok)
+
+pub record-gate : (n : ℕ) (g : Gate) → n ≤ 6 → g .controls < 4 ^ 6 → isRecord n (recordOf g) 0 ≡ true → IsGate n g
+record-gate n g six small is = subst (λ (x : Gate). IsGate n x) (gate-itself g small) (gate-at n (recordOf g) 0 six is)
+
 -- ---- the answer of decoding
 
 module _ (n : ℕ) (b : List ℕ) (at : ℕ) where

@@ -3,6 +3,7 @@ use mathlib.Core.Path.{_≡_, refl, sym, ap, _∙_}
 use mathlib.Core.Logic.{_⊎_, ⊎-elim}
 use mathlib.Core.Bool.{Bool, true, false, cond}
 use Prim.Native.Nat.{ℕ, zero, suc, _+_, _-_, _≤_, _<_}
+use native.Mathlib.Nat.{suc-add}
 use native.Mathlib.Omega.{arith}
 use Rattle.ranges.specs.Ranges.{first}
 use Rattle.ranges.proofs.Counts.{left-suc, left-zero, here-or-later, lt-or-le}
@@ -38,6 +39,16 @@ not-below f i e r s a b =
 
 pub found-unique : (f : ℕ → Bool) (i e r s : ℕ) → Found f i e r → Found f i e s → r ≡ s
 found-unique f i e r s a b = omega (arith, not-below f i e r s a b, not-below f i e s r b a)
+
+-- a search behind one number more
+pub first-suc : (f g : ℕ → Bool) → ((k : ℕ) → f (suc k) ≡ g k) → (i m : ℕ) → first f (suc i) m ≡ suc (first g i m)
+unfolding first
+first-suc f g e i zero = refl
+first-suc f g e i (suc m) = rw (e i, suc-add i 1, first-suc f g e (i + 1) m) (go (g i))
+  where
+    go : (b : Bool) → cond b (suc i) (suc (first g (i + 1) m)) ≡ suc (cond b i (first g (i + 1) m))
+    go true = refl
+    go false = refl
 
 -- one turn of a loop: k is not it; k is it; nothing is left
 pub first-more : (f : ℕ → Bool) (m k : ℕ) → k < m → f k ≡ false → first f (k + 1) (m - (k + 1)) ≡ first f k (m - k)

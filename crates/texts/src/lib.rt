@@ -1,5 +1,5 @@
 // Texts as bytes: numbers, labels and the lines of gates, stored in a room.
 pub mod gate_texts;
-mod laying;
+pub mod laying;
 pub mod numbers;
 pub mod storing;
