@@ -32,7 +32,7 @@
  *        4    an entry equals an earlier one                   first such entry
  *        5    the room is too small                            the size needed
  *        6    the cascade's length is no multiple of 8, or
- *             it has more than 8,000 gates                     0
+ *             it, or a text, has more than 8,000 gates         0
  *        7    a record isn't a gate on these lines             first such gate
  *        8    the pattern is 3^n or more                       0
  *        9    the file's frame is wrong, or the note is too
@@ -40,8 +40,10 @@
  *       10    the global control value is above 2              0
  *       11    two cascades compute different tables            first input on
  *                                                              which they differ
+ *       12    a line of a text isn't that of a gate on these
+ *             lines                                            first such line
  *
- *   Entries, gates and inputs count from 0. The size needed counts whole
+ *   Entries, gates, inputs and lines count from 0. The size needed counts whole
  *   records in a room for records, entries in a room for a table, and bytes in
  *   a room for a file, a note or a text.
  *
@@ -79,6 +81,7 @@ extern "C" {
 #define TILES_MOST_NOTE 1024     /* bytes of the longest note */
 #define TILES_MOST_FILE 65032    /* bytes of the longest file */
 #define TILES_MOST_LISTING 248031 /* bytes of the longest listing */
+#define TILES_MOST_NAMES 248000  /* bytes of the longest text that tiles_write_names writes */
 
 struct tiles_answer {
     uint64_t number; /* 0: accepted; otherwise the refusal */
@@ -174,6 +177,20 @@ struct tiles_answer tiles_listing(uint8_t lines, const uint8_t *cascade, size_t 
  * such as "refused 4 at 2". That too is an accepted call.
  * Refusal 5 (bytes). first: the bytes written. */
 struct tiles_answer tiles_sheet(const uint8_t *file, size_t len, uint8_t *room, size_t room_len);
+
+/* Reads a list of gates in document 003's names, where C1, C2, N, D, E are +1,
+ * +2, 02, 12, 01. A line is the name, a space, the target as x and a digit, a
+ * space and xk=v for each control in rising k, and a newline: "12 x0 x1=2\n".
+ * There is nothing else in a text, so that each accepted text is what
+ * tiles_write_names writes for its gates. The empty text has no gates.
+ * Refusals 1, 12, 6, 5 (records). first: the gates. */
+struct tiles_answer tiles_read_names(uint8_t lines, const uint8_t *text, size_t len, uint8_t *room,
+                                     size_t room_len);
+
+/* Writes the gates as such a list. No zero byte is added.
+ * Refusals 1, 6, 7, 5 (bytes). first: the bytes written. */
+struct tiles_answer tiles_write_names(uint8_t lines, const uint8_t *cascade, size_t len,
+                                      uint8_t *room, size_t room_len);
 
 #ifdef __cplusplus
 }

@@ -4,14 +4,14 @@ use std::hint::black_box;
 use std::time::Duration;
 
 use compare::proved::Library;
-use second::answer::Answer;
+use second::answer::{Answer, Refusal};
 use second::calls::Told;
 use second::file::Opening;
 use second::gate::{Gate, RECORD};
-use second::{cascade, choice, file, listing, sheet, synthesis, table, tabulating, tidying};
+use second::{cascade, choice, file, listing, names, sheet, synthesis, table, tabulating, tidying};
 
 use crate::clock::{race, race_changing, race_in_turn, Times};
-use crate::inputs::{bound, file_of, patterns, table_file};
+use crate::inputs::{bound, file_of, patterns, table_file, MOST_GATES};
 
 const LIBRARY: Library = Library { null_if_empty: false };
 
@@ -224,6 +224,31 @@ impl Timer {
         )
     }
 
+    /// Also of a list that is refused.
+    pub fn read_names(&self, lines: u8, list: &[u8]) -> [Times; 2] {
+        race(
+            self.patience,
+            vec![0; RECORD * MOST_GATES],
+            |room| {
+                let Told { number, place, first, .. } = LIBRARY.read_names(lines, list, room);
+                first + (number << 32) + (place << 40)
+            },
+            |room| match names::read_names(lines, list, room) {
+                Ok(gates) => gates as u64,
+                Err(Refusal { number, place }) => ((number as u64) << 32) + ((place as u64) << 40),
+            },
+        )
+    }
+
+    pub fn write_names(&self, lines: u8, cascade: &[u8]) -> [Times; 2] {
+        race(
+            self.patience,
+            vec![0; LONGEST_LISTING],
+            |room| proved(LIBRARY.write_names(lines, cascade, room)),
+            |room| second(names::write_names(lines, cascade, room)) as u64,
+        )
+    }
+
     pub fn tidy(&self, lines: u8, cascade: &[u8]) -> [Times; 2] {
         race_changing(
             self.patience,
@@ -245,9 +270,9 @@ pub fn tidy(lines: u8, cascade: &mut [u8]) {
     proved(LIBRARY.tidy(lines, cascade));
 }
 
-/// The first value of an accepted answer. All calls here are accepted. The number is
-/// compared by value: lent to `assert_eq!`, it would have the whole answer copied,
-/// by loads that wait for the stores of the call, five nanoseconds each time.
+/// The first value of an answer that must be accepted. The number is compared by
+/// value: lent to `assert_eq!`, it would have the whole answer copied, by loads that
+/// wait for the stores of the call, five nanoseconds each time.
 fn proved(told: Told) -> u64 {
     assert!(told.number == 0, "refused");
     told.first

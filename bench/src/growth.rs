@@ -4,7 +4,7 @@ use second::hard::hard;
 
 use crate::calls::Timer;
 use crate::clock::Times;
-use crate::inputs::{drawn_cascade, drawn_tables, file_of, patterns, MOST_GATES};
+use crate::inputs::{drawn_cascade, drawn_tables, file_of, list_of, patterns, MOST_GATES};
 use crate::report::{duration, grouped};
 
 const GATES: [usize; 5] = [500, 1_000, 2_000, 4_000, MOST_GATES];
@@ -28,6 +28,7 @@ fn with_gates(timer: &Timer) {
     line("invert, drawn gates", &|gates| timer.invert(6, &drawn(gates)));
     line("read_file, drawn gates", &|gates| timer.read_file(&file_of(6, &drawn(gates), b"")));
     line("listing, drawn gates", &|gates| timer.listing(6, &drawn(gates)));
+    line("read_names, drawn gates", &|gates| timer.read_names(6, &list_of(6, &drawn(gates))));
     line("tidy, drawn gates", &|gates| timer.tidy(6, &drawn(gates)));
     let [(name, segments), ..] = hard();
     line(&format!("tidy, {name}"), &|gates| timer.tidy(6, &segments.cascade(gates)));

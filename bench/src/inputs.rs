@@ -1,10 +1,11 @@
-//! The tables, cascades and files that the calls are timed on.
+//! The tables, cascades, files and lists that the calls are timed on.
 
 use second::cascade::invert;
 pub use second::cascade::MOST_GATES;
 use second::draws::Draws;
 use second::file::write_file;
 use second::gate::RECORD;
+use second::names::write_names;
 use second::pattern::Lines;
 use second::synthesis::synthesize;
 
@@ -59,7 +60,7 @@ pub fn table_file(lines: u8, table: &[u16]) -> Vec<u8> {
     file
 }
 
-// Cascades and files.
+// Cascades, files and lists.
 
 pub fn synthesized(lines: u8, table: &[u16]) -> Vec<u8> {
     let mut room = vec![0; RECORD * bound(lines)];
@@ -96,6 +97,14 @@ pub fn file_of(lines: u8, cascade: &[u8], note: &[u8]) -> Vec<u8> {
     let written = write_file(lines, cascade, note, &mut file);
     assert_eq!(written, Ok(file.len()));
     file
+}
+
+/// A list in document 003's names.
+pub fn list_of(lines: u8, cascade: &[u8]) -> Vec<u8> {
+    let mut list = vec![0; 4 * cascade.len()];
+    let bytes = write_names(lines, cascade, &mut list).unwrap_or(0);
+    list.truncate(bytes);
+    list
 }
 
 /// Two cascades with no record in common that compute the same table: for each

@@ -9,7 +9,7 @@ use crate::clock::{times, Times};
 pub struct What<'a> {
     pub call: &'a str,
     pub lines: u8,
-    /// Gates of a cascade, entries of a table, or tables.
+    /// Gates of a cascade, entries of a table, tables, or bytes of a long text.
     pub size: usize,
     pub aim: Option<f64>,
 }
@@ -43,7 +43,7 @@ impl Report {
 
     pub fn start_run(&self) {
         println!(
-            "{:<46}{:>5}{:>8}{:>10}{:>10}{:>10}{:>10}{:>8}{:>6}",
+            "{:<46}{:>5}{:>11}{:>10}{:>10}{:>10}{:>10}{:>8}{:>6}",
             "call", "lines", "size", "proved", "least", "second", "least", "ratio", "aim"
         );
     }
@@ -56,7 +56,7 @@ impl Report {
         let [proved, second] = time(&self.timer);
         // What else the machine does only adds time, so the least times are compared.
         let ratio = proved.least / second.least;
-        let what = format!("{call:<46}{lines:>5}{:>8}", grouped(size));
+        let what = format!("{call:<46}{lines:>5}{:>11}", grouped(size));
         println!(
             "{what}{:>10}{:>10}{:>10}{:>10}{ratio:>8.2}{:>6}{}",
             duration(proved.median),
@@ -86,7 +86,7 @@ impl Report {
 
     fn print_ratios(&self, runs: usize) {
         println!(
-            "\n{:<59}{:>8}{:>8}{:>8}{:>6}",
+            "\n{:<62}{:>8}{:>8}{:>8}{:>6}",
             format!("ratios of {runs} runs"),
             "median",
             "least",

@@ -7,7 +7,7 @@ use second::hard::{hard, hardest};
 
 use crate::inputs::{
     alike, all_tables, bare_cascade, counter, drawn_cascade, drawn_tables, file_of, identity,
-    patterns, synthesized, there_and_back, MOST_GATES,
+    list_of, patterns, synthesized, there_and_back, MOST_GATES,
 };
 use crate::report::{Report, What};
 
@@ -23,6 +23,7 @@ pub fn print(report: &mut Report) {
     cascades(report);
     files(report);
     texts(report);
+    lists(report);
     tidying(report);
 }
 
@@ -102,6 +103,24 @@ fn texts(report: &mut Report) {
     let on_table = |call| What { call, lines: 6, size: patterns(6), aim: None };
     report.line(on_table("sheet, a drawn table"), |timer| timer.sheet(6, table));
     report.line(on_table("sheet, a table that reaches the bound"), |timer| timer.sheet(6, hardest));
+}
+
+/// Lists in document 003's names; then long texts, of which the first two are refused at
+/// their first line and the last, which has too many lines, at its end.
+fn lists(report: &mut Report) {
+    let drawn = &drawn_cascade(6, MOST_GATES);
+    let list = &list_of(6, drawn);
+    report.line(on("read_names, drawn gates", drawn), |timer| timer.read_names(6, list));
+    report.line(on("write_names, drawn gates", drawn), |timer| timer.write_names(6, drawn));
+    for (call, part) in [
+        ("read_names, 20 MB without a newline", "+1 x0 "),
+        ("read_names, 20 MB of newlines", "\n"),
+        ("read_names, 20 MB of good lines", "+1 x0\n"),
+    ] {
+        let text = part.repeat(20_000_000 / part.len());
+        let what = What { call, lines: 6, size: text.len(), aim: None };
+        report.line(what, |timer| timer.read_names(6, text.as_bytes()));
+    }
 }
 
 fn tidying(report: &mut Report) {

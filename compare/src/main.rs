@@ -23,7 +23,7 @@ use samples::Numbers;
 use second::calls::Call;
 use second::cases::cases;
 
-use inputs::Input;
+use inputs::{newlines, Input};
 
 fn main() -> ExitCode {
     let mut arguments = [1_000_000u64, 1, 0];
@@ -90,10 +90,13 @@ fn usage() -> ExitCode {
     ExitCode::from(2)
 }
 
+/// The last number on the refusal card.
+const LAST_REFUSAL: usize = 12;
+
 /// How many inputs each call had: accepted, then by refusal.
 #[derive(Default)]
 struct Tally {
-    counts: [[u64; 12]; Call::ALL.len()],
+    counts: [[u64; 1 + LAST_REFUSAL]; Call::ALL.len()],
     /// Inputs with 121 to 7,999 gates, and with 8,000 or more.
     long: [u64; 2],
 }
@@ -102,8 +105,12 @@ impl Tally {
     /// Compares, and counts what was answered.
     fn compare(&mut self, input: &Input) -> Result<(), String> {
         let answer = both::compare(input)?;
-        self.counts[input.call.number() as usize - 1][answer.number.min(11) as usize] += 1;
-        let gates = input.bytes.len().max(input.more_bytes.len()) / 8;
+        let number = (answer.number as usize).min(LAST_REFUSAL);
+        self.counts[input.call.number() as usize - 1][number] += 1;
+        let gates = match input.call {
+            Call::ReadNames => newlines(&input.bytes),
+            _ => input.bytes.len().max(input.more_bytes.len()) / 8,
+        };
         self.long[0] += (121..8_000).contains(&gates) as u64;
         self.long[1] += (gates >= 8_000) as u64;
         Ok(())
@@ -111,7 +118,7 @@ impl Tally {
 
     fn print(&self) {
         print!("{:<14}{:>9}{:>9}", "call", "inputs", "accepted");
-        (1..12).for_each(|number| print!("{number:>8}"));
+        (1..=LAST_REFUSAL).for_each(|number| print!("{number:>8}"));
         println!();
         let mut missing = vec![];
         for (call, counts) in Call::ALL.into_iter().zip(&self.counts) {

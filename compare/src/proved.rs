@@ -93,6 +93,20 @@ mod c {
             room_len: usize,
         ) -> Answer;
         pub fn tiles_sheet(file: *const u8, len: usize, room: *mut u8, room_len: usize) -> Answer;
+        pub fn tiles_read_names(
+            lines: u8,
+            text: *const u8,
+            len: usize,
+            room: *mut u8,
+            room_len: usize,
+        ) -> Answer;
+        pub fn tiles_write_names(
+            lines: u8,
+            cascade: *const u8,
+            len: usize,
+            room: *mut u8,
+            room_len: usize,
+        ) -> Answer;
     }
 }
 
@@ -196,6 +210,16 @@ impl Library {
         unsafe { c::tiles_sheet(self.given(file), file.len(), at, len) }.told()
     }
 
+    pub fn read_names(self, lines: u8, text: &[u8], room: &mut [u8]) -> Told {
+        let (at, len) = (self.lent(room), room.len());
+        unsafe { c::tiles_read_names(lines, self.given(text), text.len(), at, len) }.told()
+    }
+
+    pub fn write_names(self, lines: u8, cascade: &[u8], room: &mut [u8]) -> Told {
+        let (at, len) = (self.lent(room), room.len());
+        unsafe { c::tiles_write_names(lines, self.given(cascade), cascade.len(), at, len) }.told()
+    }
+
     /// Calls, and tells the answer in numbers.
     pub fn answer(self, call: Call, given: Given) -> Told {
         let Given { lines, value, pattern, place, end, table, bytes, more_bytes, .. } = given;
@@ -216,6 +240,8 @@ impl Library {
             Call::Next => self.next(bytes, lines, place, end),
             Call::Listing => self.listing(lines, bytes, room),
             Call::Sheet => self.sheet(bytes, room),
+            Call::ReadNames => self.read_names(lines, bytes, room),
+            Call::WriteNames => self.write_names(lines, bytes, room),
         }
     }
 }

@@ -1,4 +1,4 @@
-//! Records that are wrong.
+//! Records and texts that are wrong.
 
 use crate::numbers::Numbers;
 
@@ -38,6 +38,23 @@ impl Numbers {
             3 => record[2 + self.below(6)] = self.pick(&[4, 5, 7, 131, 255]),
             4 if lines < 6 => record[2 + lines + self.below(6 - lines)] = self.below(3) as u8,
             _ => record.fill(0),
+        }
+    }
+
+    /// Changes a byte of a text, takes one out or puts one in: mostly such as stand in
+    /// lines of gates, or the next to the one that was there.
+    pub fn edit(&mut self, text: &mut Vec<u8>) {
+        let byte = match self.below(8) {
+            0 => self.byte(),
+            _ => self.pick(b"+0123456789 x=\nX\rCDEN"),
+        };
+        let place = self.below(text.len() + 1);
+        match self.below(4) {
+            0 => text.insert(place, byte),
+            1 if place < text.len() => drop(text.remove(place)),
+            2 if place < text.len() => text[place] ^= 1 + (byte & 2),
+            3 if place < text.len() => text[place] = byte,
+            _ => drop(text.pop()),
         }
     }
 }

@@ -56,4 +56,9 @@ impl Refusal {
     pub(crate) const fn different_tables(input: usize) -> Self {
         Refusal { number: 11, place: input }
     }
+
+    /// In a list: not of the form, or no gate.
+    pub(crate) const fn not_a_line(line: usize) -> Self {
+        Refusal { number: 12, place: line }
+    }
 }

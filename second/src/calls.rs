@@ -11,6 +11,7 @@ use crate::cascade::{check, invert, price, run};
 use crate::choice::choose;
 use crate::file::{next, opening, read_file, write_file};
 use crate::listing::listing;
+use crate::names::{read_names, write_names};
 use crate::sheet::sheet;
 use crate::synthesis::synthesize;
 use crate::table::check_table;
@@ -35,6 +36,8 @@ pub enum Call {
     Next,
     Listing,
     Sheet,
+    ReadNames,
+    WriteNames,
 }
 
 /// All that is given or lent to a call. It looks only at what it takes.
@@ -46,7 +49,7 @@ pub struct Given<'a> {
     pub place: usize,
     pub end: usize,
     pub table: &'a [u16],
-    /// The cascade, the first of two, or the file. Tidying changes it.
+    /// The cascade, the first of two, the file, or the list. Tidying changes it.
     pub bytes: &'a mut [u8],
     /// The second cascade, or the note.
     pub more_bytes: &'a [u8],
@@ -70,7 +73,7 @@ pub struct Told {
 }
 
 impl Call {
-    pub const ALL: [Call; 15] = [
+    pub const ALL: [Call; 17] = [
         Call::CheckTable,
         Call::Synthesize,
         Call::CheckCascade,
@@ -86,6 +89,8 @@ impl Call {
         Call::Next,
         Call::Listing,
         Call::Sheet,
+        Call::ReadNames,
+        Call::WriteNames,
     ];
 
     pub fn from_number(number: u32) -> Option<Call> {
@@ -113,6 +118,8 @@ impl Call {
             Call::Next => "next",
             Call::Listing => "listing",
             Call::Sheet => "sheet",
+            Call::ReadNames => "read_names",
+            Call::WriteNames => "write_names",
         }
     }
 
@@ -123,7 +130,7 @@ impl Call {
             Call::Synthesize => &[1, 2, 3, 4, 5],
             Call::CheckCascade | Call::Tidy => &[1, 6, 7],
             Call::Run => &[1, 6, 7, 8],
-            Call::Tabulate | Call::Invert | Call::Listing => &[1, 6, 7, 5],
+            Call::Tabulate | Call::Invert | Call::Listing | Call::WriteNames => &[1, 6, 7, 5],
             Call::Price => &[1, 10, 6, 7],
             Call::Choose => &[1, 10, 6, 7, 11],
             Call::WriteFile => &[1, 6, 7, 9, 5],
@@ -131,6 +138,7 @@ impl Call {
             Call::Opening => &[9, 1, 6, 7],
             Call::Next => &[1, 7],
             Call::Sheet => &[5],
+            Call::ReadNames => &[1, 12, 6, 5],
         }
     }
 
@@ -168,6 +176,8 @@ impl Call {
             }),
             Call::Listing => told(listing(lines, bytes, room), one),
             Call::Sheet => told(sheet(bytes, room), one),
+            Call::ReadNames => told(read_names(lines, bytes, room), one),
+            Call::WriteNames => told(write_names(lines, bytes, room), one),
         }
     }
 }

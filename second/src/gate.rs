@@ -32,6 +32,9 @@ impl Operator {
     pub const ALL: [Operator; 5] =
         [Operator::C1, Operator::C2, Operator::N, Operator::D, Operator::E];
 
+    /// Document 01's names of [`Operator::ALL`].
+    pub const NAMES: [&'static str; 5] = ["C1", "C2", "N", "D", "E"];
+
     pub fn from_number(number: u8) -> Option<Operator> {
         Operator::ALL.into_iter().find(|&operator| operator.number() == number)
     }
@@ -41,14 +44,8 @@ impl Operator {
         self as u8
     }
 
-    pub const fn name(self) -> &'static str {
-        match self {
-            Operator::C1 => "C1",
-            Operator::C2 => "C2",
-            Operator::N => "N",
-            Operator::D => "D",
-            Operator::E => "E",
-        }
+    pub fn name(self) -> &'static str {
+        Operator::NAMES[self as usize - 1]
     }
 
     /// The new digit. What is no digit stays as it is.

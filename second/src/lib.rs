@@ -1,7 +1,8 @@
 //! Reversible ternary logic: tables into cascades, and what one does with cascades.
 //!
 //! This is the second of two implementations that share nothing but their
-//! documents. One module stands for each section of document 01:
+//! documents. One module stands for each section of document 01, and behind these one
+//! for order 1 of document 02:
 //!
 //! | module        | section                                                        |
 //! |---------------|----------------------------------------------------------------|
@@ -17,6 +18,7 @@
 //! | [`file`](mod@file) | The cascade file                                          |
 //! | [`listing`](mod@listing) | From table to cascade: the printed text             |
 //! | [`sheet`](mod@sheet) | From table to cascade: the program                      |
+//! | [`names`]     | Lists in the other school's names                              |
 //!
 //! Every call takes any bytes and any numbers. It answers a value or a
 //! [`Refusal`](answer::Refusal), and a refused call leaves all lent memory as it
@@ -43,6 +45,7 @@ pub mod file;
 pub mod gate;
 pub mod hard;
 pub mod listing;
+pub mod names;
 pub mod pattern;
 mod planes;
 pub mod sheet;

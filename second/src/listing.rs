@@ -15,6 +15,7 @@ pub fn listing(lines: u8, cascade: &[u8], room: &mut [u8]) -> Answer<usize> {
 /// A listing that is still to be written.
 pub(crate) struct Listing<'a> {
     head: String,
+    starts: &'static Starts,
     cascade: Cascade<'a>,
 }
 
@@ -22,11 +23,18 @@ impl<'a> Listing<'a> {
     pub(crate) fn of(cascade: Cascade<'a>) -> Self {
         let (lines, gates) = (cascade.lines().count(), cascade.len());
         let cost = cascade.cost(GlobalValue::TWO);
-        Listing { head: format!("lines {lines} gates {gates} cost {cost}\n"), cascade }
+        let head = format!("lines {lines} gates {gates} cost {cost}\n");
+        Listing { head, starts: &STARTS, cascade }
+    }
+
+    /// Without a head line, and with other names for the operators.
+    pub(crate) fn of_gates(cascade: Cascade<'a>, starts: &'static Starts) -> Self {
+        Listing { head: String::new(), starts, cascade }
     }
 
     fn length(&self) -> usize {
-        self.head.len() + self.cascade.gates().map(line_length).sum::<usize>()
+        let lines = self.cascade.gates().map(|gate| line_length(self.starts, gate));
+        self.head.len() + lines.sum::<usize>()
     }
 
     /// Refusal 5; the answer is the number of bytes.
@@ -52,37 +60,37 @@ impl<'a> Listing<'a> {
         let (head, mut rest) = room.split_at_mut(self.head.len());
         head.copy_from_slice(self.head.as_bytes());
         for gate in self.cascade.gates() {
-            let length = write_line(gate, rest);
+            let length = write_line(self.starts, gate, rest);
             rest = &mut rest[length..];
         }
     }
 }
 
-/// The bytes of `D x0 x1=2` and its newline.
-fn line_length(gate: Gate) -> usize {
-    let name = 1 + (gate.operator() as usize <= Operator::C2 as usize) as usize;
-    name + " x0".len() + gate.control_count() * " x1=2".len() + "\n".len()
+/// The bytes of `D x0 x1=2` and its newline, the same for each target.
+fn line_length(starts: &Starts, gate: Gate) -> usize {
+    let [start, ..] = starts[gate.operator() as usize - 1];
+    start.length + gate.control_count() * " x1=2".len() + "\n".len()
 }
 
 /// Room for any line, wherever in it a whole piece begins.
 const LINE: usize = 64;
 
 /// Writes a gate's line at the start of a room and tells its length.
-fn write_line(gate: Gate, room: &mut [u8]) -> usize {
+fn write_line(starts: &Starts, gate: Gate, room: &mut [u8]) -> usize {
     // Pieces are written whole, whatever their length, and what is too much is
     // written over by the next. Only close to the room's end it matters.
     if let Some(room) = room.first_chunk_mut::<LINE>() {
-        return write_pieces(gate, room);
+        return write_pieces(starts, gate, room);
     }
     let mut line = [0; LINE];
-    let length = write_pieces(gate, &mut line);
+    let length = write_pieces(starts, gate, &mut line);
     room[..length].copy_from_slice(&line[..length]);
     length
 }
 
-fn write_pieces(gate: Gate, room: &mut [u8; LINE]) -> usize {
+fn write_pieces(starts: &Starts, gate: Gate, room: &mut [u8; LINE]) -> usize {
     let controls = gate.packed_controls() as usize;
-    let mut length = HEADS[gate.operator() as usize - 1][gate.target()].write(room, 0);
+    let mut length = starts[gate.operator() as usize - 1][gate.target()].write(room, 0);
     for (number, pairs) in PAIRS.iter().enumerate() {
         length = pairs[controls >> (4 * number) & 15].write(room, length);
     }
@@ -92,7 +100,7 @@ fn write_pieces(gate: Gate, room: &mut [u8; LINE]) -> usize {
 
 /// A few bytes of text.
 #[derive(Clone, Copy)]
-struct Piece {
+pub(crate) struct Piece {
     bytes: [u8; 16],
     length: usize,
 }
@@ -117,19 +125,23 @@ impl Piece {
     }
 }
 
-/// Operator and target: `D x0`.
-static HEADS: [[Piece; MOST_LINES]; 5] = {
-    let mut heads = [[Piece::EMPTY; MOST_LINES]; 5];
+/// Operator and target, `D x0`, by both.
+pub(crate) type Starts = [[Piece; MOST_LINES]; 5];
+
+static STARTS: Starts = starts(Operator::NAMES);
+
+/// The starts of lines in which the operators have such names.
+pub(crate) const fn starts(names: [&str; 5]) -> Starts {
+    let mut starts = [[Piece::EMPTY; MOST_LINES]; 5];
     let mut place = 0;
     while place < 5 * MOST_LINES {
         let (operator, line) = (place % 5, place / 5);
         let line_text = [b' ', b'x', b'0' + line as u8];
-        let name = Operator::ALL[operator].name();
-        heads[operator][line] = Piece::EMPTY.and(name.as_bytes()).and(&line_text);
+        starts[operator][line] = Piece::EMPTY.and(names[operator].as_bytes()).and(&line_text);
         place += 1;
     }
-    heads
-};
+    starts
+}
 
 /// The controls of x0 and x1, of x2 and x3, of x4 and x5, by their bytes: the
 /// upper line's times 4 and the lower one's.

@@ -3,17 +3,22 @@
 
 mod cascades;
 mod files;
+mod lists;
 mod tables;
 
 use samples::Numbers;
+use second::answer::Answer;
 use second::calls::Call;
 use second::file::opening;
+use second::listing::listing;
+use second::names::write_names;
 use second::pattern::Lines;
 use second::sheet;
 use second::vectors::Case;
 
 use cascades::{hard_cascade, partner, some_cascade};
 use files::{some_end, some_file, some_place};
+use lists::some_list;
 use tables::some_table;
 pub use tables::some_table_file;
 
@@ -27,7 +32,7 @@ pub struct Input {
     pub place: usize,
     pub end: usize,
     pub table: Vec<u16>,
-    /// The cascade, the first of two, or the file.
+    /// The cascade, the first of two, the file, or the list.
     pub bytes: Vec<u8>,
     /// The second cascade, or the note.
     pub more_bytes: Vec<u8>,
@@ -93,6 +98,7 @@ impl Input {
             Call::CheckTable | Call::Synthesize => input.take_table(numbers),
             Call::ReadFile | Call::Opening | Call::Next => input.take_file(numbers),
             Call::Sheet => input.take_table_file(numbers),
+            Call::ReadNames => input.take_list(numbers),
             Call::Tidy if numbers.one_in(1_000) => {
                 input.lines = 6;
                 input.bytes = hard_cascade(numbers);
@@ -133,12 +139,12 @@ impl Input {
                 self.room = around(numbers, self.more_bytes.len() + records + 8, 8);
             }
             Call::Listing => {
-                let needed = second::listing::listing(self.lines, &self.bytes, &mut []);
-                let needed = match needed {
-                    Err(refusal) if refusal.number == 5 => refusal.place,
-                    _ => 30,
-                };
-                self.room = around(numbers, needed, 1);
+                let answer = listing(self.lines, &self.bytes, &mut []);
+                self.room = around(numbers, needed(answer), 1);
+            }
+            Call::WriteNames => {
+                let answer = write_names(self.lines, &self.bytes, &mut []);
+                self.room = around(numbers, needed(answer), 1);
             }
             _ => {}
         }
@@ -165,9 +171,30 @@ impl Input {
         self.bytes = file;
     }
 
+    fn take_list(&mut self, numbers: &mut Numbers) {
+        let lines = board(numbers);
+        self.bytes = some_list(numbers, lines);
+        self.lines = said(numbers, lines);
+        self.room = around(numbers, 8 * newlines(&self.bytes), 8);
+    }
+
     fn take_table_file(&mut self, numbers: &mut Numbers) {
         self.bytes = some_table_file(numbers);
         self.room = around(numbers, sheet::text(&self.bytes).len(), 1);
+    }
+}
+
+/// The lines of a text.
+pub fn newlines(text: &[u8]) -> usize {
+    text.iter().filter(|&&byte| byte == b'\n').count()
+}
+
+/// The bytes of a text, as a call without room tells; where it tells something else,
+/// some.
+fn needed(answer: Answer<usize>) -> usize {
+    match answer {
+        Err(refusal) if refusal.number == 5 => refusal.place,
+        _ => 30,
     }
 }
 

@@ -170,7 +170,7 @@ listing-003 =
     ++ ascii "N x0 x1=1\n"
 
 -- the same gates as records
-abbrev gates-003 : List ℕ
+abbrev pub gates-003 : List ℕ
 gates-003 =
     x0 D 2 ++ x0 N 2 ++ x1 D 1 ++ x0 D 2 ++ x1 D 0 ++ x1 N 2 ++ x0 D 2 ++ x1 N 1 ++ x0 E 2 ++ x1 E 0 ++ x0 N 1
 

@@ -1,10 +1,10 @@
 -- Demand 1, the places. Where a row of the card names the first of something, its place is the least index with the property, in the property's own words:
 -- no search of a call has to be believed for that. Assumes nothing.
 use Prim.Native.Nat.{ℕ, _*_, _^_, _≤_, _<_}
-use mathlib.Core.Path.{_≡_}
+use mathlib.Core.Path.{_≡_, sym}
 use mathlib.Core.Logic.{⊎-elim}
 use mathlib.Core.Bool.{Bool, true, false, not}
-use mathlib.Core.List.{List}
+use mathlib.Core.List.{List, []}
 use native.Mathlib.Omega.{arith}
 use lib.Dec.{eqb, leb, ltb}
 use lib.ListN.{length, getD}
@@ -13,6 +13,8 @@ use Rattle.ranges.specs.Ranges.{some, first}
 use Rattle.ranges.proofs.Bools.{decide, clash}
 use Rattle.ranges.proofs.Tests.{some-hit, some-not}
 use Rattle.ranges.proofs.Searches.{found}
+use Rattle.card.specs.Card.{linesOk}
+use Rattle.card.proofs.Cards.{lines-are}
 use Rattle.gates.specs.declared.Gate.{Gate}
 use Rattle.gates.specs.Records.{isRecord}
 use Rattle.tables.specs.Tables.{tooLarge, repeated, firstLarge, firstRepeated}
@@ -20,7 +22,9 @@ use Rattle.cascades.specs.Cascades.{records, ran}
 use Rattle.cascades.specs.Answers.{badRecord, firstBad}
 use Rattle.choice.specs.Choice.{firstDifference}
 use Rattle.demands.specs.CardRows.{Places}
-use Rattle.demands.specs.Refusals.{row3, row4, row7, row11, Repeats}
+use Rattle.names.specs.Names.{otherName, textLines, good, gateNamed, firstWrong}
+use Rattle.names.proofs.GoodLines.{good-gate, gate-good}
+use Rattle.demands.specs.Refusals.{row3, row4, row7, row11, row12, Repeats, LineOf}
 
 -- the first number below m that passes a test is the least with the property that the test decides
 least-place : (f : ℕ → Bool) (P : ℕ → Type 0) (m k : ℕ) → ((i : ℕ) → f i ≡ true → P i) → ((i : ℕ) → f i ≡ false → P i → ⊥)
@@ -83,3 +87,17 @@ row11-places n gs hs =
     least-place (λ p. not (eqb (ran gs p) (ran hs p))) (λ p. ran gs p ≡ ran hs p → ⊥) (3 ^ n) 11
     (λ p e. eqb-false (ran gs p) (ran hs p) (not-true (eqb (ran gs p) (ran hs p)) e))
     (λ p e w. w (eqb-true (ran gs p) (ran hs p) (not-false (eqb (ran gs p) (ran hs p)) e)))
+
+-- the first line of a text that is not the line of a gate on n lines
+pub row12-places : (n : ℕ) (t : List ℕ) → linesOk n ≡ true → Places (λ i. LineOf n (getD (textLines t) i []) → ⊥) (length (textLines t)) (row12 n t)
+unfolding firstWrong
+row12-places n t ok =
+    least-place (λ i. not (good n (getD (textLines t) i []))) (λ i. LineOf n (getD (textLines t) i []) → ⊥) (length (textLines t)) 12
+    (λ i e w. clash (good n (getD (textLines t) i [])) (is-good (getD (textLines t) i []) w) (not-true (good n (getD (textLines t) i [])) e))
+    (λ i e w. w (line-of (getD (textLines t) i []) (not-false (good n (getD (textLines t) i [])) e)))
+  where
+    is-good : (l : List ℕ) → LineOf n l → good n l ≡ true
+    is-good l w = rw (w .text) (gate-good n (lines-are n ok .1) (w .gate) (w .is))
+
+    line-of : (l : List ℕ) → good n l ≡ true → LineOf n l
+    line-of l e = let h = good-gate n (lines-are n ok .1) l e in record { gate = gateNamed n l; is = h .0; text = sym (h .1) }

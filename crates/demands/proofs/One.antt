@@ -23,8 +23,10 @@ use Rattle.readers.specs.Readers.{recordStands, asGiven, givenAs, givenAt, plac
 use Rattle.readers.specs.declared.Given.{Given}
 use Rattle.listings.specs.Listings.{listingText, listingAnswer, listingRoom}
 use Rattle.sheets.specs.Sheets.{linesOf, entriesOf, fileAnswer, sheetText, sheetAnswer, sheetRoom}
+use Rattle.texts.specs.GateTexts.{gateTexts}
+use Rattle.names.specs.Names.{otherName, textLines, onText, readNamesAnswer, readNamesRoom, writeNamesAnswer, writeNamesRoom}
 use Rattle.demands.specs.CardRows.{Row, decided, FirstIs, NoneApplies, Exactly, Kept}
-use Rattle.demands.specs.Refusals.{row1, row2, row3, row4, row5, row6, row7, row7-next, row8, row9, row9-note, row10, row11, choiceRows, openingRows}
+use Rattle.demands.specs.Refusals.{row1, row2, row3, row4, row5, row6, row6-lines, row7, row7-next, row8, row9, row9-note, row10, row11, row12, choiceRows, openingRows}
 use Rattle.demands.proofs.Decided.{first-refuses, refused-first, none-accepts, accepted-none}
 
 exactly : (rows : List Row) (vs : List ℕ) → Exactly (decided rows (accepted vs)) rows vs
@@ -183,3 +185,23 @@ sheet f room = exactly (row5 room (length (sheetText f)) ∷ []) (length (sheetT
 pub sheet-kept : (f room : List ℕ) → Kept (sheetAnswer f (length room)) (sheetRoom f room) room
 unfolding sheetRoom
 sheet-kept f room = kept (sheetAnswer f (length room)) _ room
+
+-- ---- document 02
+
+pub read-names : (n : ℕ) (t : List ℕ) (room : ℕ)
+    → Exactly (readNamesAnswer n t room) (row1 n ∷ row12 n t ∷ row6-lines t ∷ row5 (room / 8) (length (textLines t)) ∷ []) (length (textLines t) ∷ [])
+unfolding readNamesAnswer onLines onText decided
+read-names n t room = exactly (row1 n ∷ row12 n t ∷ row6-lines t ∷ row5 (room / 8) (length (textLines t)) ∷ []) (length (textLines t) ∷ [])
+
+pub read-names-kept : (n : ℕ) (t room : List ℕ) → Kept (readNamesAnswer n t (length room)) (readNamesRoom n t room) room
+unfolding readNamesRoom
+read-names-kept n t room = kept (readNamesAnswer n t (length room)) _ room
+
+pub write-names : (n : ℕ) (b : List ℕ) (room : ℕ)
+    → Exactly (writeNamesAnswer n b room) (row1 n ∷ row6 b ∷ row7 n b ∷ row5 room (length (gateTexts otherName (gatesOf b))) ∷ []) (length (gateTexts otherName (gatesOf b)) ∷ [])
+unfolding writeNamesAnswer onLines onRecords decided
+write-names n b room = exactly (row1 n ∷ row6 b ∷ row7 n b ∷ row5 room (length (gateTexts otherName (gatesOf b))) ∷ []) (length (gateTexts otherName (gatesOf b)) ∷ [])
+
+pub write-names-kept : (n : ℕ) (b room : List ℕ) → Kept (writeNamesAnswer n b (length room)) (writeNamesRoom n b room) room
+unfolding writeNamesRoom
+write-names-kept n b room = kept (writeNamesAnswer n b (length room)) _ room

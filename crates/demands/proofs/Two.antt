@@ -1,7 +1,7 @@
 -- Demand 2. Given the room asked, a table is accepted exactly if it is a permutation of the patterns of its lines. Its cascade is the one that the
 -- procedure defines, and computes the table; reversed, each gate replaced by its inverse, it computes the inverse table and gives back every input. What
--- `invert` leaves does so for every cascade. Accepted files read and write back to the same bytes, and a reader hands out the file's gates.
--- Assumes nothing.
+-- `invert` leaves does so for every cascade. Accepted files read and write back to the same bytes, and a reader hands out the file's gates; so do texts
+-- in document 003's names. Assumes nothing.
 use Prim.Native.Nat.{ℕ, _+_, _*_, _/_, _^_, _≤_, _<_}
 use mathlib.Core.Path.{_≡_, sym, ap, _∙_}
 use mathlib.Core.Bool.{true}
@@ -33,6 +33,13 @@ use Rattle.readers.specs.declared.Given.{Given}
 use Rattle.readers.specs.declared.Reader.{Reader}
 use Rattle.readers.specs.Readers.{asGiven, handed, Opened}
 use Rattle.readers.proofs.Handed.{reader-gates}
+use Rattle.gates.specs.declared.Gate.{Gate}
+use Rattle.gates.specs.Gates.{IsGate}
+use Rattle.texts.specs.GateTexts.{gateText}
+use Rattle.names.specs.Names.{otherName, readNamesAnswer, readNamesRoom, writeNamesAnswer, writeNamesRoom}
+use Rattle.names.specs.NameTrips.{ReadsBack, WritesBack}
+use Rattle.names.proofs.GoodLines.{one-gate}
+use Rattle.names.proofs.NameTrips.{names-written-read, names-read-written}
 use Rattle.demands.specs.CardRows.{NoneApplies}
 use Rattle.demands.specs.Worth.{TableWorth}
 use Rattle.demands.proofs.One.{check-table, synthesize, check-cascade, invert}
@@ -116,3 +123,19 @@ back-and-there = written-read
 pub reader-walk : (f : RefT (List ℕ)) (r : Reader) (vs : List ℕ) → Opened f r → openingAnswer (now f) ≡ accepted vs → (k : ℕ)
     → handed r (count (now f) + k) ≡ map asGiven (gatesOf (recordsOf 8 (now f))) ++ replicate k Given.End
 reader-walk = reader-gates
+
+-- ---- texts in document 003's names
+
+-- writing a cascade gives a text that is accepted and reads back to the same bytes
+pub names-there-and-back : (n : ℕ) (b room : List ℕ) (s : ℕ) → writeNamesAnswer n b (length room) ≡ accepted (s ∷ [])
+    → (recordRoom : List ℕ) → records b ≤ length recordRoom / 8 → ReadsBack n b (take s (writeNamesRoom n b room)) recordRoom
+names-there-and-back = names-written-read
+
+-- each accepted text is exactly what writing its cascade gives
+pub names-back-and-there : (n : ℕ) (t room : List ℕ) (m : ℕ) → readNamesAnswer n t (length room) ≡ accepted (m ∷ [])
+    → (textRoom : List ℕ) → length t ≤ length textRoom → WritesBack n (take (8 * m) (readNamesRoom n t room)) t textRoom
+names-back-and-there = names-read-written
+
+-- two gates with the same line are equal
+pub one-line : (n m : ℕ) (g h : Gate) → n ≤ 6 → m ≤ 6 → IsGate n g → IsGate m h → gateText otherName g ≡ gateText otherName h → g ≡ h
+one-line = one-gate

@@ -1,4 +1,5 @@
--- Document 01's refusal card, a definition for each row: when it is given, and its place; and the rows of the two calls that hand a reference back.
+-- The refusal card of documents 01 and 02, a definition for each row: when it is given, and its place; and the rows of the two calls that hand a
+-- reference back.
 use Prim.Native.Nat.{ℕ, _^_, _<_}
 use mathlib.Core.Path.{_≡_}
 use mathlib.Core.Bool.{not, _&&_}
@@ -7,6 +8,7 @@ use lib.Dec.{eqb, leb, ltb}
 use lib.ListN.{length, getD}
 use Rattle.card.specs.Card.{linesOk}
 use Rattle.gates.specs.declared.Gate.{Gate}
+use Rattle.gates.specs.Gates.{IsGate}
 use Rattle.gates.specs.Records.{isRecord}
 use Rattle.tables.specs.Tables.{firstLarge, firstRepeated}
 use Rattle.cascades.specs.Cascades.{records, gatesOf}
@@ -14,6 +16,8 @@ use Rattle.cascades.specs.Answers.{lengthOk, firstBad}
 use Rattle.choice.specs.Choice.{firstDifference}
 use Rattle.files.specs.Files.{linesIn, recordsOf, frameOk}
 use Rattle.readers.specs.Readers.{recordStands}
+use Rattle.texts.specs.GateTexts.{gateText}
+use Rattle.names.specs.Names.{otherName, textLines, firstWrong}
 use Rattle.demands.specs.CardRows.{Row}
 
 -- lines not 1 to 6
@@ -39,6 +43,10 @@ row5 have need = record { applies = ltb have need; number = 5; place = need }
 -- cascade length no multiple of 8, or over 8,000 gates
 abbrev pub row6 : List ℕ → Row
 row6 b = record { applies = not (lengthOk (length b)); number = 6; place = 0 }
+
+-- a text has more than 8,000 lines
+abbrev pub row6-lines : List ℕ → Row
+row6-lines t = record { applies = ltb 8000 (length (textLines t)); number = 6; place = 0 }
 
 -- a record isn't a gate on n lines: the first such gate
 abbrev pub row7 : ℕ → List ℕ → Row
@@ -68,6 +76,10 @@ row10 v = record { applies = ltb 2 v; number = 10; place = 0 }
 abbrev pub row11 : ℕ → List Gate → List Gate → Row
 row11 n gs hs = record { applies = ltb (firstDifference n gs hs) (3 ^ n); number = 11; place = firstDifference n gs hs }
 
+-- a line of a text isn't that of a gate on n lines: the first such line
+abbrev pub row12 : ℕ → List ℕ → Row
+row12 n t = record { applies = ltb (firstWrong n (textLines t)) (length (textLines t)); number = 12; place = firstWrong n (textLines t) }
+
 -- 1 10, 6 7 of the first, 6 7 of the second, 11
 abbrev pub choiceRows : ℕ → ℕ → List ℕ → List ℕ → List Row
 choiceRows n v b c = row1 n ∷ row10 v ∷ row6 b ∷ row7 n b ∷ row6 c ∷ row7 n c ∷ row11 n (gatesOf b) (gatesOf c) ∷ []
@@ -81,3 +93,9 @@ pub record Repeats (t : List ℕ) (i : ℕ) : Type 0 where
   pub earlier : ℕ
   pub before : earlier < i
   pub equal : getD t earlier 0 ≡ getD t i 0
+
+-- l is the line of a gate on n lines, in document 003's names
+pub record LineOf (n : ℕ) (l : List ℕ) : Type 0 where
+  pub gate : Gate
+  pub is : IsGate n gate
+  pub text : l ≡ gateText otherName gate

@@ -11,6 +11,7 @@ ghost use Rattle.files.specs.Files.{writeAnswer, writeRoom, readAnswer, readRec
 ghost use Rattle.readers.specs.Readers.{turnAt};
 ghost use Rattle.listings.specs.Listings.{listingAnswer, listingRoom};
 ghost use Rattle.sheets.specs.Sheets.{sheetAnswer, sheetRoom};
+ghost use Rattle.names.specs.Names.{readNamesAnswer, readNamesRoom, writeNamesAnswer, writeNamesRoom};
 ghost use Rattle.exports.specs.Numbers.{numbers, turnAs};
 
 mod answers;
@@ -145,4 +146,20 @@ pub extern "C" fn tiles_sheet(file: &[u8], room: &mut [u8]) -> Numbers
     ensures { λ r. ⌜ now (room .exit) ≡ sheetRoom (now (file .entry)) (now (room .entry)) ⌝ }
 {
     answers::listed(sheets::sheet(file, room))
+}
+
+#[no_mangle]
+pub extern "C" fn tiles_read_names(lines: u8, text: &[u8], room: &mut [u8]) -> Numbers
+    ensures { λ r. ⌜ r ≡ numbers (readNamesAnswer lines (now (text .entry)) (length (now (room .entry)))) ⌝ }
+    ensures { λ r. ⌜ now (room .exit) ≡ readNamesRoom lines (now (text .entry)) (now (room .entry)) ⌝ }
+{
+    answers::counted(names::read_names(lines, text, room))
+}
+
+#[no_mangle]
+pub extern "C" fn tiles_write_names(lines: u8, cascade: &[u8], room: &mut [u8]) -> Numbers
+    ensures { λ r. ⌜ r ≡ numbers (writeNamesAnswer lines (now (cascade .entry)) (length (now (room .entry)))) ⌝ }
+    ensures { λ r. ⌜ now (room .exit) ≡ writeNamesRoom lines (now (cascade .entry)) (now (room .entry)) ⌝ }
+{
+    answers::listed(names::write_names(lines, cascade, room))
 }

@@ -41,7 +41,9 @@ fn perform(
         12 => exports::tiles_opening(bytes),
         13 => exports::tiles_next(bytes, lines, case.place, case.end),
         14 => exports::tiles_listing(lines, bytes, room),
-        _ => exports::tiles_sheet(bytes, room),
+        15 => exports::tiles_sheet(bytes, room),
+        16 => exports::tiles_read_names(lines, bytes, room),
+        _ => exports::tiles_write_names(lines, bytes, room),
     }
 }
 

@@ -56,7 +56,7 @@ pub fn find_case(head: &[u8]) -> ParsedHead
     let value = read_u32(head, 2);
     let pattern = read_u32(head, 3);
     let fill = read_u32(head, 10);
-    if call < 1 || call > 15 || lines > 255 || value > 255 || pattern > 0xffff || fill > 255 {
+    if call < 1 || call > 17 || lines > 255 || value > 255 || pattern > 0xffff || fill > 255 {
         return ParsedHead::Nothing;
     }
     ParsedHead::Case(StoredCase {

@@ -99,6 +99,7 @@ pub(super) fn on_long_cascade(
         Call::Invert => length,
         Call::WriteFile => length + 12,
         Call::Listing => 40 + 4 * length,
+        Call::WriteNames => 4 * length,
         _ => 0,
     };
     let note = if call == Call::WriteFile { b"note".to_vec() } else { vec![] };

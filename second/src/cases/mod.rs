@@ -8,6 +8,7 @@ mod choices;
 mod files;
 mod long_tidying;
 mod making;
+mod names;
 mod published;
 mod tables;
 mod texts;
@@ -20,7 +21,7 @@ use crate::vectors::Case;
 
 /// The cases, always the same and in the same order.
 pub fn cases() -> Vec<Case> {
-    let parts: [fn() -> Vec<Case>; 19] = [
+    let parts: [fn() -> Vec<Case>; 26] = [
         tables::tables,
         tables::rooms_for_synthesis,
         cascades::lines_of_cascades,
@@ -40,6 +41,13 @@ pub fn cases() -> Vec<Case> {
         files::readers,
         texts::listings,
         texts::sheets,
+        names::boards_of_lists,
+        names::forms_of_lines,
+        names::damaged_lines,
+        names::lengths_of_lists,
+        names::rooms_for_lists,
+        names::written_lists,
+        names::lists_read_back,
     ];
     let mut cases: Vec<_> = parts.into_iter().flat_map(|part| part()).collect();
     for (place, case) in cases.iter_mut().enumerate() {

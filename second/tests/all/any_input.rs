@@ -7,7 +7,10 @@ use second::choice::{cheaper, choose};
 use second::file::{next, opening, Reader};
 use second::table::check_table;
 
-use crate::calls::{invert, listing, read_file, sheet, synthesize, tabulate, tidy, write_file};
+use crate::calls::{
+    invert, listing, read_file, read_names, sheet, synthesize, tabulate, tidy, write_file,
+    write_names,
+};
 
 /// Bytes that are now and then a cascade, a file or nothing of the kind.
 fn some_bytes(numbers: &mut Numbers) -> Vec<u8> {
@@ -35,6 +38,19 @@ fn some_bytes(numbers: &mut Numbers) -> Vec<u8> {
     bytes
 }
 
+/// Bytes that are now and then a list in document 003's names.
+fn some_list(numbers: &mut Numbers) -> Vec<u8> {
+    let lines = ["+1 x0\n", "12 x1 x0=2\n", "02 x4 x0=0 x1=1 x5=2\n", "01 x3 x2=1\n", "+2 x5\n"];
+    let mut text = vec![];
+    for _ in 0..numbers.below(5) {
+        text.extend(numbers.pick(&lines).as_bytes());
+    }
+    for _ in 0..numbers.below(3) {
+        numbers.edit(&mut text);
+    }
+    text
+}
+
 fn some_lines(numbers: &mut Numbers) -> u8 {
     if numbers.below(10) == 0 {
         numbers.byte()
@@ -54,7 +70,7 @@ fn some_place(numbers: &mut Numbers) -> usize {
 #[test]
 fn nothing_panics_and_nothing_else_changes() {
     let mut numbers = Numbers::from_seed(21);
-    let mut accepted = [0; 14];
+    let mut accepted = [0; 16];
     for _ in 0..60_000 {
         let (one, other) = (some_bytes(&mut numbers), some_bytes(&mut numbers));
         let lines = some_lines(&mut numbers);
@@ -62,6 +78,7 @@ fn nothing_panics_and_nothing_else_changes() {
         let room = numbers.below(300);
         let pattern = numbers.next() as u16 >> numbers.below(16);
         let (place, end) = (some_place(&mut numbers), some_place(&mut numbers));
+        let list = some_list(&mut numbers);
         let (kept_one, kept_other) = (one.clone(), other.clone());
 
         let results = [
@@ -79,10 +96,10 @@ fn nothing_panics_and_nothing_else_changes() {
             listing(lines, &one, room).is_ok(),
             sheet(&one, room).is_ok(),
             Reader::open(&one).next().is_ok(),
+            read_names(lines, &list, room).is_ok(),
+            write_names(lines, &one, room).is_ok(),
         ];
-        for (count, result) in accepted.iter_mut().zip(results) {
-            *count += result as u32;
-        }
+        accepted.iter_mut().zip(results).for_each(|(count, result)| *count += result as u32);
         let part = cheaper(lines, value, &one, &other);
         assert!(part.is_empty() || part == one || part == other);
         assert!(Reader { file: &one, lines, place, end }.next().is_ok() == results[10]);

@@ -59,6 +59,16 @@ pub fn listing(lines: u8, cascade: &[u8], room: usize) -> Answer<Vec<u8>> {
     watch(room, call, |bytes| bytes).map(|(_, text)| text)
 }
 
+pub fn read_names(lines: u8, text: &[u8], room: usize) -> Answer<Vec<u8>> {
+    let call = |room: &mut [u8]| second::names::read_names(lines, text, room);
+    watch(room, call, |gates| 8 * gates).map(|(_, records)| records)
+}
+
+pub fn write_names(lines: u8, cascade: &[u8], room: usize) -> Answer<Vec<u8>> {
+    let call = |room: &mut [u8]| second::names::write_names(lines, cascade, room);
+    watch(room, call, |bytes| bytes).map(|(_, text)| text)
+}
+
 pub fn sheet(file: &[u8], room: usize) -> Answer<Vec<u8>> {
     watch(room, |room| second::sheet::sheet(file, room), |bytes| bytes).map(|(_, text)| text)
 }

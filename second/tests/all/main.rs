@@ -17,6 +17,7 @@ mod files;
 mod hard;
 mod helpers;
 mod listing;
+mod names;
 mod plain;
 mod program;
 mod published;

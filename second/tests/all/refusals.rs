@@ -1,6 +1,6 @@
 //! Every refusal of every call, from both sides of its edge, and the order of
 //! refusals where several apply. The calls of `calls` see to it that no lent
-//! memory changes.
+//! memory changes. For reading files see `refusals_of_files`, for reading lists `names`.
 
 use second::answer::Refusal;
 use second::cascade::{check, price, run};
@@ -8,7 +8,7 @@ use second::cases::{gates, RIGHT_RECORD, WRONG_RECORDS};
 use second::choice::{cheaper, choose};
 use second::table::check_table;
 
-use crate::calls::{invert, listing, synthesize, tabulate, tidy, write_file};
+use crate::calls::{invert, listing, synthesize, tabulate, tidy, write_file, write_names};
 use crate::helpers::{identity, refused, BOUND, NO_LINES};
 use crate::plain;
 
@@ -27,6 +27,7 @@ fn all_on_one_cascade(lines: u8, bytes: &[u8]) -> Vec<Result<(), Refusal>> {
         choose(lines, 2, empty_or_same, bytes).map(drop),
         write_file(lines, bytes, b"note", 70_000).map(drop),
         listing(lines, bytes, 300_000).map(drop),
+        write_names(lines, bytes, 300_000).map(drop),
     ]
 }
 
@@ -54,6 +55,7 @@ fn one_lines_from_1_to_6() {
         assert_eq!(tabulate(lines, &[], 0), refused(1, 0));
         assert_eq!(write_file(lines, &[], &[0; 1_025], 0), refused(1, 0));
         assert_eq!(listing(lines, &[], 0), refused(1, 0));
+        assert_eq!(write_names(lines, &[], 0), refused(1, 0));
         for table in [&[][..], &[0], &[9, 9, 9]] {
             assert_eq!(check_table(lines, table), refused(1, 0));
             assert_eq!(synthesize(lines, table, 0), refused(1, 0));
@@ -192,6 +194,7 @@ fn six_whole_records_and_at_most_8000() {
             assert_eq!(tabulate(3, &bytes, 0), refused(6, 0));
             assert_eq!(invert(3, &bytes, 0), refused(6, 0));
             assert_eq!(listing(3, &bytes, 0), refused(6, 0));
+            assert_eq!(write_names(3, &bytes, 0), refused(6, 0));
             assert_eq!(write_file(3, &bytes, &[0; 1_025], 0), refused(6, 0));
         }
     }
@@ -217,6 +220,7 @@ fn seven_the_first_record_that_is_no_gate() {
             assert_eq!(tabulate(lines, &bytes, 0), refused(7, place));
             assert_eq!(invert(lines, &bytes, 0), refused(7, place));
             assert_eq!(listing(lines, &bytes, 0), refused(7, place));
+            assert_eq!(write_names(lines, &bytes, 0), refused(7, place));
             assert_eq!(write_file(lines, &bytes, &[0; 1_025], 0), refused(7, place));
         }
     }

@@ -78,7 +78,7 @@ fn assert_no_other_file_reads(bytes: [u8; 75]) {
     assert_eq!(read_cases(&[&bytes[..], &[0]].concat()), None);
     // No such call, a number too large for its place, more than there is room for.
     for (place, value) in
-        [(4, 0), (4, 16), (9, 1), (13, 1), (18, 1), (22, 1), (39, 1), (43, 1), (45, 1)]
+        [(4, 0), (4, 18), (9, 1), (13, 1), (18, 1), (22, 1), (39, 1), (43, 1), (45, 1)]
     {
         let mut wrong = bytes;
         wrong[place] = value;
@@ -108,7 +108,7 @@ fn every_answer_of_every_call_is_there() {
         assert_eq!(of_call, call.refusals().len() + 1);
     }
     assert_eq!(Call::from_number(0), None);
-    assert_eq!(Call::from_number(16), None);
+    assert_eq!(Call::from_number(18), None);
 }
 
 #[test]
@@ -219,6 +219,18 @@ fn the_edges_are_there() {
         .map(|case| numbers(&case)[4])
         .collect();
     assert_eq!((chart.len(), chart.iter().sum::<u64>()), (25, 7));
+}
+
+#[test]
+fn the_edges_of_lists_are_there() {
+    assert!(answering(Call::ReadNames, 0).contains(&[16, 0, 0, 8_000, 0, 0]));
+    assert!(answering(Call::ReadNames, 6).contains(&[16, 6, 0, 0, 0, 0]));
+    for place in [0, 8_000, 9_000] {
+        assert!(answering(Call::ReadNames, 12).contains(&[16, 12, place, 0, 0, 0]));
+    }
+    assert!(answering(Call::WriteNames, 0).contains(&[17, 0, 0, 248_000, 0, 0]));
+    assert!(answering(Call::WriteNames, 5).contains(&[17, 5, 248_000, 0, 0, 0]));
+    assert!(answering(Call::WriteNames, 7).contains(&[17, 7, 7_999, 0, 0, 0]));
 }
 
 #[test]

@@ -1,0 +1,3 @@
+pub mod Names
+pub mod NameTrips
+pub mod Inner
