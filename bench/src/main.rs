@@ -10,9 +10,10 @@
 //!
 //!     bench runs COUNT
 //!
-//! prints the first table so many times, then for each line the median, the least and
-//! the largest of its ratios. If an aim is missed, by the median where there are
-//! several runs, the program ends with status 1.
+//! prints the first table so many times, then for each line the medians over all runs of
+//! each side's least time and of the ratio, and the least and the largest ratio. If an
+//! aim is missed, by the median where there are several runs, the program ends with
+//! status 1.
 //!
 //!     bench worst SECONDS [SEED] [GATES]
 //!

@@ -22,17 +22,21 @@ pub struct Report {
     lines: Vec<Line>,
 }
 
-/// What was timed, as it is printed, and its ratio in each run.
+/// What was timed, as it is printed, and the least time of each side in each run.
 struct Line {
     what: String,
     aim: Option<f64>,
-    ratios: Vec<f64>,
+    least: Vec<[f64; 2]>,
 }
 
 impl Line {
+    fn ratios(&self) -> Vec<f64> {
+        self.least.iter().map(|[proved, second]| proved / second).collect()
+    }
+
     /// Is the median over all runs above the aim?
     fn is_missed(&self) -> bool {
-        self.aim.is_some_and(|aim| times(self.ratios.clone()).median > aim)
+        self.aim.is_some_and(|aim| times(self.ratios()).median > aim)
     }
 }
 
@@ -58,52 +62,70 @@ impl Report {
         let ratio = proved.least / second.least;
         let what = format!("{call:<46}{lines:>5}{:>11}", grouped(size));
         println!(
-            "{what}{:>10}{:>10}{:>10}{:>10}{ratio:>8.2}{:>6}{}",
+            "{what}{:>10}{:>10}{:>10}{:>10}{:>8}{:>6}{}",
             duration(proved.median),
             duration(proved.least),
             duration(second.median),
             duration(second.least),
+            ratio_text(ratio),
             aim.map_or("-".to_string(), |aim| format!("{aim:.2}")),
             if aim.is_some_and(|aim| ratio > aim) { " *" } else { "" }
         );
+        let least = [proved.least, second.least];
         match self.lines.iter_mut().find(|line| line.what == what) {
-            Some(line) => line.ratios.push(ratio),
-            None => self.lines.push(Line { what, aim, ratios: vec![ratio] }),
+            Some(line) => line.least.push(least),
+            None => self.lines.push(Line { what, aim, least: vec![least] }),
         }
     }
 
-    /// The ratios over all runs, if there were several. Tells whether all aims are
-    /// met by the medians.
+    /// The medians over all runs, if there were several, and the spread of the ratios.
+    /// Tells whether all aims are met by the medians.
     pub fn end(self) -> bool {
-        let runs = self.lines.iter().map(|line| line.ratios.len()).max().unwrap_or(0);
+        let runs = self.lines.iter().map(|line| line.least.len()).max().unwrap_or(0);
         if runs > 1 {
-            self.print_ratios(runs);
+            self.print_medians(runs);
         }
         let missed = self.lines.iter().filter(|line| line.is_missed()).count();
         println!("* the aim is missed: {missed} of {} lines", self.lines.len());
         missed == 0
     }
 
-    fn print_ratios(&self, runs: usize) {
+    fn print_medians(&self, runs: usize) {
         println!(
-            "\n{:<62}{:>8}{:>8}{:>8}{:>6}",
-            format!("ratios of {runs} runs"),
-            "median",
+            "\n{:<62}{:>10}{:>10}{:>8}{:>8}{:>8}{:>6}",
+            format!("medians of {runs} runs"),
+            "proved",
+            "second",
+            "ratio",
             "least",
             "most",
             "aim"
         );
         for line in &self.lines {
-            let Times { median, least } = times(line.ratios.clone());
-            let most = line.ratios.iter().fold(0.0, |most: f64, &ratio| most.max(ratio));
+            let [proved, second] =
+                [0, 1].map(|side| times(line.least.iter().map(|least| least[side]).collect()));
+            let ratios = line.ratios();
+            let most = ratios.iter().fold(0.0, |most: f64, &ratio| most.max(ratio));
+            let Times { median, least } = times(ratios);
             println!(
-                "{}{median:>8.2}{least:>8.2}{most:>8.2}{:>6}{}",
+                "{}{:>10}{:>10}{:>8}{:>8}{:>8}{:>6}{}",
                 line.what,
+                duration(proved.median),
+                duration(second.median),
+                ratio_text(median),
+                ratio_text(least),
+                ratio_text(most),
                 line.aim.map_or("-".to_string(), |aim| format!("{aim:.2}")),
                 if line.is_missed() { " *" } else { "" }
             );
         }
     }
+}
+
+/// With two places, or none where a number is large.
+fn ratio_text(ratio: f64) -> String {
+    let places = if ratio < 100.0 { 2 } else { 0 };
+    format!("{ratio:.places$}")
 }
 
 /// A number of seconds with three digits and a unit.
