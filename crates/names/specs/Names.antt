@@ -30,7 +30,7 @@ textLines (c ∷ t) = cond (eqb c 10) ((c ∷ []) ∷ textLines t) (beforeFirst 
 
 -- ---- good lines: nothing is read off a line, all gates are tried
 
--- every gate has a number below 8 * 8 * 4^6
+-- the gates by number: 8 * 8 * 4^6 of them, which is 262,144; those that are none on n lines are passed over below
 unfoldable pub numbered : ℕ → Gate
 numbered i = record { operator = i % 8; target = i / 8 % 8; controls = i / 64 }
 
