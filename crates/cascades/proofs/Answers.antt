@@ -1,8 +1,8 @@
 -- 1, 6 and 7 of bytes that should be records, whatever a good record is: what they say of the bytes, and that they do not depend on the answer behind them.
 -- Assumes nothing.
 use mathlib.Core.Path.{_≡_, refl, sym, _∙_}
-use mathlib.Core.Bool.{Bool, true, false, cond, not}
-use mathlib.Core.List.{List, [], _∷_}
+use mathlib.Core.Bool.{Bool, true, false, not}
+use mathlib.Core.List.{List}
 use Prim.Native.Nat.{ℕ, _+_, _-_, _*_, _%_, _≤_, _<_}
 use native.Mathlib.Nat.{zero-add, sub-zero}
 use native.Mathlib.Omega.{arith}
@@ -12,8 +12,9 @@ use borrow.Author.Tests.{lt-ltb, le-ltb, le-leb, leb-true, eqb-true, eq-eqb, ltb
 use Rattle.ranges.specs.Ranges.{first}
 use Rattle.ranges.proofs.Bools.{and-left, and-right, clash}
 use Rattle.ranges.proofs.Searches.{Found, found, first-more, first-hit, first-ends}
-use Rattle.card.specs.Card.{Answer, Answer.accepted, Answer.refused, refusing, linesOk, onLines}
-use Rattle.card.proofs.Cards.{good-lines, not-accepted}
+use Rattle.card.specs.Card.{Answer, Answer.accepted, Answer.refused, refusing, onLines}
+use Rattle.card.proofs.Cards.{refusing-passed, good-lines}
+use Rattle.card.proofs.Fronts.{Front, front, front-of, front-lines, front-refused}
 use Rattle.cascades.specs.Cascades.{records}
 use Rattle.cascades.specs.Inner.Checked.{WholeOf}
 use Rattle.cascades.specs.Answers.{lengthOk, badRecord, firstBad, onRecords}
@@ -88,43 +89,33 @@ module _ (good : ℕ → List ℕ → ℕ → Bool) (n : ℕ) (b : List ℕ) whe
         never r true e f h = clash (badRecord good n b r) (f .hit (omega (arith, ltb-true r (records b) e))) (h r (ltb-true r (records b) e))
         never r false e f h = ltb-false r (records b) e
 
-  -- ---- what an answer behind 1, 6 and 7 says, whatever it accepts with
+  -- ---- what an answer behind 1, 6 and 7 says
 
-  module _ (us : List ℕ) where
-    -- accepted: the bytes are records, each a good one
-    pub behind-whole : (vs : List ℕ) → onLines n (onRecords good n b (accepted us)) ≡ accepted vs → WholeOf good n b (records b)
-    unfolding onLines onRecords refusing
-    behind-whole vs = go (linesOk n) (lengthOk (length b)) (ltb (firstBad good n b) (records b)) refl refl refl
-      where
-        go : (x y z : Bool) → linesOk n ≡ x → lengthOk (length b) ≡ y → ltb (firstBad good n b) (records b) ≡ z
-            → cond (not x) (refused 1 0) (cond (not y) (refused 6 0) (cond z (refused 7 (firstBad good n b)) (accepted us))) ≡ accepted vs
-            → WholeOf good n b (records b)
-        go false y z p q r e = not-accepted 1 0 vs e
-        go true false z p q r e = not-accepted 6 0 vs e
-        go true true true p q r e = not-accepted 7 (firstBad good n b) vs e
-        go true true false p q r e =
-            let l = length-is (length b) q in
-            let f : Found (badRecord good n b) 0 (records b) (firstBad good n b) = unfold firstBad in (rw (zero-add (records b)) at (found (badRecord good n b) 0 (records b))) in
-            record {
-              lines = p;
-              size = omega arith;
-              most = omega arith;
-              each = λ i lt. good-is i (f .before i (omega arith) (omega (arith, ltb-false (firstBad good n b) (records b) r)));
-            }
+  pub front-records : Front (onRecords good n b)
+  unfolding onRecords
+  front-records =
+      front-of (refusing (not (lengthOk (length b))) 6 0) (refusing (ltb (firstBad good n b) (records b)) 7 (firstBad good n b))
+      (front (not (lengthOk (length b))) 6 0) (front (ltb (firstBad good n b) (records b)) 7 (firstBad good n b))
 
-    pub behind-value : (u v : ℕ) → us ≡ u ∷ [] → onLines n (onRecords good n b (accepted us)) ≡ accepted (v ∷ []) → v ≡ u
-    behind-value u v is e =
-        let a : accepted us ≡ accepted (v ∷ []) = sym (records-passed (accepted us) (records b) (behind-whole (v ∷ []) e)) ∙ e in
-        cc
+  -- accepted: the bytes are records, each a good one, and what stands behind accepts
+  pub behind-accepted : (x : Answer) (vs : List ℕ) → onLines n (onRecords good n b x) ≡ accepted vs → WholeOf good n b (records b) × (x ≡ accepted vs)
+  unfolding onLines onRecords
+  behind-accepted x vs e =
+      let lines = refusing-passed _ 1 0 _ vs e in
+      let size = refusing-passed _ 6 0 _ vs (lines .1) in
+      let each = refusing-passed _ 7 (firstBad good n b) x vs (size .1) in
+      let l = length-is (length b) (not-false _ (size .0)) in
+      let f : Found (badRecord good n b) 0 (records b) (firstBad good n b) = unfold firstBad in (rw (zero-add (records b)) at (found (badRecord good n b) 0 (records b))) in (
+        record {
+          lines = not-false _ (lines .0);
+          size = omega arith;
+          most = omega arith;
+          each = λ i lt. good-is i (f .before i (omega arith) (omega (arith, ltb-false (firstBad good n b) (records b) (each .0))));
+        },
+        each .1,
+      )
 
-    -- refused: so is every other call behind 1, 6 and 7
-    pub behind-refused : (k p : ℕ) (x : Answer) → onLines n (onRecords good n b (accepted us)) ≡ refused k p → onLines n (onRecords good n b x) ≡ refused k p
-    unfolding onLines onRecords refusing
-    behind-refused k p x = go (linesOk n) (lengthOk (length b)) (ltb (firstBad good n b) (records b))
-      where
-        go : (s t u : Bool) → cond (not s) (refused 1 0) (cond (not t) (refused 6 0) (cond u (refused 7 (firstBad good n b)) (accepted us))) ≡ refused k p
-            → cond (not s) (refused 1 0) (cond (not t) (refused 6 0) (cond u (refused 7 (firstBad good n b)) x)) ≡ refused k p
-        go false t u e = e
-        go true false u e = e
-        go true true true e = e
-        go true true false e = not-accepted k p us (sym e)
+  -- refused, where it could accept: so is every other answer behind them
+  pub behind-refused : (vs : List ℕ) (k p : ℕ) (x : Answer) → onLines n (onRecords good n b (accepted vs)) ≡ refused k p → onLines n (onRecords good n b x) ≡ refused k p
+  behind-refused vs k p x e =
+      front-refused (λ y. onLines n (onRecords good n b y)) (front-of (onLines n) (onRecords good n b) (front-lines n) front-records) vs k p e x

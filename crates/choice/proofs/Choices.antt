@@ -1,36 +1,28 @@
 -- The choice between two cascades: two tables differ first where the cascades do, and 11 is given exactly where the tables are not the same; what the
 -- prices of the two say of the whole answer; and what is handed back. It rests on the laws of 1, 6 and 7 of `cascades`. Assumes nothing.
-use mathlib.Core.Path.{_≡_, refl, sym, ap, _∙_, subst}
-use mathlib.Core.Bool.{Bool, true, false, cond, not}
+use mathlib.Core.Path.{_≡_, refl, sym, ap, _∙_}
+use mathlib.Core.Bool.{Bool, cond, not}
 use mathlib.Core.List.{List, [], _∷_}
-use Prim.Native.Nat.{ℕ, zero, suc, _+_, _^_, _≤_, _<_}
+use Prim.Native.Nat.{ℕ, _^_, _≤_, _<_}
 use native.Mathlib.Nat.{zero-add}
 use native.Mathlib.Omega.{arith}
 use lib.Dec.{eqb, ltb}
 use lib.ListN.{length, getD}
 use denote.Ref.{RefT, ptr, now}
 use borrow.Author.Tests.{lt-ltb, le-ltb, eqb-true, eqb-false, not-true, not-false}
-use Rattle.ranges.specs.Ranges.{first}
-use Rattle.ranges.proofs.Searches.{Found, found}
+use Rattle.ranges.proofs.Searches.{Found, found, first-ext}
 use Rattle.ranges.proofs.Spans.{length-span, span-at, span-ext}
-use Rattle.card.specs.Card.{Answer, Answer.accepted, Answer.refused, refusing, linesOk, onLines}
-use Rattle.card.proofs.Cards.{no-lines, good-lines, refusing-yes, refusing-no}
+use Rattle.card.specs.Card.{Answer, Answer.accepted, Answer.refused, refusing, onLines}
+use Rattle.card.proofs.Cards.{good-lines, refusing-yes, refusing-no}
 use Rattle.gates.specs.declared.Gate.{Gate}
 use Rattle.cascades.specs.Cascades.{records, gatesOf, ran, tableFor, tableOf}
 use Rattle.cascades.specs.Inner.Checked.{Whole}
-use Rattle.cascades.specs.Prices.{cascadePrice}
-use Rattle.cascades.specs.Answers.{onCascade, checkAnswer, priceAnswer}
-use Rattle.cascades.proofs.Checks.{passed, check-whole, check-refused}
+use Rattle.cascades.specs.Answers.{onCascade, priceAnswer}
+use Rattle.cascades.proofs.Checks.{passed, price-accepted, price-refused}
 use Rattle.choice.specs.Choice.{firstDifference, secondWins, chooseAnswer, Handed}
 use Rattle.choice.specs.Inner.Comparing.{firstUnlike}
 
 -- ---- the first difference
-
--- searches by tests that agree find the same
-first-ext : (f g : ℕ → Bool) (i m : ℕ) → ((k : ℕ) → i ≤ k → k < i + m → f k ≡ g k) → first f i m ≡ first g i m
-unfolding first
-first-ext f g i zero h = refl
-first-ext f g i (suc m) h = rw (h i (omega arith) (omega arith), first-ext f g (i + 1) m (λ k le lt. h k (omega arith) (omega arith)))
 
 table-entry : (n : ℕ) (gs : List Gate) (p : ℕ) → p < 3 ^ n → getD (tableOf n gs) p 0 ≡ ran gs p
 unfolding tableFor
@@ -64,68 +56,42 @@ module _ (n : ℕ) (gs hs : List Gate) where
       eqb-false (ran gs (firstDifference n gs hs)) (ran hs (firstDifference n gs hs)) (not-true (eqb (ran gs (firstDifference n gs hs)) (ran hs (firstDifference n gs hs))) (searched .hit lt))
       (sym (table-entry n gs (firstDifference n gs hs) lt) ∙ rw e (table-entry n hs (firstDifference n gs hs) lt))
 
--- ---- 1, 10, 6 and 7
+-- ---- the answer, by the prices of the two
 
 -- a cascade that was checked is let through
 on-cascade-passed : (n : ℕ) (b : List ℕ) (m : ℕ) (x : Answer) → Whole n b m → onCascade n b x ≡ x
 on-cascade-passed n b m x w = sym (good-lines n (onCascade n b x) (w .lines)) ∙ passed n b x m w
 
-module _ (n v : ℕ) (b : List ℕ) where
-  -- a price: lines, value and cascade are right
-  pub record Costs (vs : List ℕ) : Type 0 where
-    pub low : ltb 2 v ≡ false
-    pub whole : Whole n b (records b)
-    pub is : vs ≡ cascadePrice v (gatesOf b) ∷ []
-
-  -- what the answer of pricing says: a refusal is that of every call behind 1, 10, 6 and 7
-  abbrev pub PriceSays : Answer → Type 0
-  PriceSays (accepted vs) = Costs vs
-  PriceSays (refused k p) = (x : Answer) → onLines n (refusing (ltb 2 v) 10 0 (onCascade n b x)) ≡ refused k p
-
-  pub price-says : (a : Answer) → priceAnswer n v b ≡ a → PriceSays a
-  unfolding priceAnswer
-  price-says a e = subst PriceSays e (go (linesOk n) (ltb 2 v) (checkAnswer n b) refl refl refl)
-    where
-      go : (s t : Bool) (c : Answer) → linesOk n ≡ s → ltb 2 v ≡ t → checkAnswer n b ≡ c
-          → PriceSays (onLines n (refusing (ltb 2 v) 10 0 (onCascade n b (accepted (cascadePrice v (gatesOf b) ∷ [])))))
-      go false t c p q r = subst PriceSays (sym (no-lines n _ p)) (λ x. no-lines n _ p)
-      go true true c p q r = subst PriceSays (sym (good-lines n _ p ∙ refusing-yes (ltb 2 v) 10 0 _ q)) (λ x. good-lines n _ p ∙ refusing-yes (ltb 2 v) 10 0 _ q)
-      go true false (refused k m) p q r =
-          let behind : (x : Answer) → onLines n (refusing (ltb 2 v) 10 0 (onCascade n b x)) ≡ refused k m =
-          λ x. ap (onLines n) (refusing-no (ltb 2 v) 10 0 (onCascade n b x) q) ∙ check-refused n b k m x r in
-          subst PriceSays (sym (behind (accepted (cascadePrice v (gatesOf b) ∷ [])))) behind
-      go true false (accepted vs) p q r =
-          let w = check-whole n b vs r in
-          subst PriceSays (sym (ap (onLines n) (refusing-no (ltb 2 v) 10 0 _ q) ∙ passed n b _ _ w)) (record { low = q; whole = w; is = refl })
-
 module _ (n v : ℕ) (b c : List ℕ) where
   -- the first is refused
   pub choose-first : (k p : ℕ) → priceAnswer n v b ≡ refused k p → chooseAnswer n v b c ≡ refused k p
   unfolding chooseAnswer
-  choose-first k p e = price-says n v b (refused k p) e _
+  choose-first k p e = price-refused n b v k p _ e
 
-  -- the second is
-  pub choose-second : (vs : List ℕ) (k p : ℕ) → priceAnswer n v b ≡ accepted vs → priceAnswer n v c ≡ refused k p → chooseAnswer n v b c ≡ refused k p
-  unfolding chooseAnswer
-  choose-second vs k p e f =
-      ap (λ (a : Answer). onLines n (refusing (ltb 2 v) 10 0 a)) (on-cascade-passed n b _ _ (price-says n v b (accepted vs) e .whole)) ∙ price-says n v c (refused k p) f _
+  module _ (vs : List ℕ) (e : priceAnswer n v b ≡ accepted vs) where
+    first-through : (x : Answer) → onCascade n b x ≡ x
+    first-through x = on-cascade-passed n b (records b) x (price-accepted n b v vs e .whole)
 
-  -- neither is: 11 decides, and then cost and length
-  module _ (vs ws : List ℕ) (e : priceAnswer n v b ≡ accepted vs) (f : priceAnswer n v c ≡ accepted ws) where
-    let-through : (x : Answer) → onLines n (refusing (ltb 2 v) 10 0 (onCascade n b (onCascade n c x))) ≡ x
-    let-through x =
-        let one = price-says n v b (accepted vs) e in
-        good-lines n _ (one .whole .lines) ∙ refusing-no (ltb 2 v) 10 0 _ (one .low) ∙ on-cascade-passed n b _ _ (one .whole)
-        ∙ on-cascade-passed n c _ _ (price-says n v c (accepted ws) f .whole)
-
-    pub choose-differ : (d : ℕ) → d ≡ firstDifference n (gatesOf b) (gatesOf c) → d < 3 ^ n → chooseAnswer n v b c ≡ refused 11 d
+    -- the second is
+    pub choose-second : (k p : ℕ) → priceAnswer n v c ≡ refused k p → chooseAnswer n v b c ≡ refused k p
     unfolding chooseAnswer
-    choose-differ d q lt = let-through _ ∙ rw (← q) (refusing-yes (ltb d (3 ^ n)) 11 d _ (lt-ltb d (3 ^ n) lt))
+    choose-second k p f = ap (λ (a : Answer). onLines n (refusing (ltb 2 v) 10 0 a)) (first-through _) ∙ price-refused n c v k p _ f
 
-    pub choose-same : (d : ℕ) (t : Bool) → d ≡ firstDifference n (gatesOf b) (gatesOf c) → 3 ^ n ≤ d → secondWins v (gatesOf b) (gatesOf c) ≡ t
-        → chooseAnswer n v b c ≡ accepted (cond t 2 1 ∷ [])
-    unfolding chooseAnswer
-    choose-same d t q le w = let-through _ ∙ rw (← q, w) (refusing-no (ltb d (3 ^ n)) 11 d _ (le-ltb d (3 ^ n) le))
+    -- neither is: 11 decides, and then cost and length
+    module _ (ws : List ℕ) (f : priceAnswer n v c ≡ accepted ws) where
+      let-through : (x : Answer) → onLines n (refusing (ltb 2 v) 10 0 (onCascade n b (onCascade n c x))) ≡ x
+      let-through x =
+          let two = price-accepted n c v ws f in
+          good-lines n _ (two .whole .lines) ∙ two .value-passed _ ∙ first-through _ ∙ on-cascade-passed n c (records c) x (two .whole)
+
+      pub choose-differ : (d : ℕ) → d ≡ firstDifference n (gatesOf b) (gatesOf c) → d < 3 ^ n → chooseAnswer n v b c ≡ refused 11 d
+      unfolding chooseAnswer
+      choose-differ d q lt = let-through _ ∙ rw (← q) (refusing-yes (ltb d (3 ^ n)) 11 d _ (lt-ltb d (3 ^ n) lt))
+
+      pub choose-same : (d : ℕ) (t : Bool) → d ≡ firstDifference n (gatesOf b) (gatesOf c) → 3 ^ n ≤ d → secondWins v (gatesOf b) (gatesOf c) ≡ t
+          → chooseAnswer n v b c ≡ accepted (cond t 2 1 ∷ [])
+      unfolding chooseAnswer
+      choose-same d t q le w = let-through _ ∙ rw (← q, w) (refusing-no (ltb d (3 ^ n)) 11 d _ (le-ltb d (3 ^ n) le))
 
 -- ---- what is handed back
 

@@ -1,15 +1,19 @@
 -- What opening a file says of every call behind 9, 1, 6 and 7. Assumes nothing.
-use mathlib.Core.Path.{_≡_, refl, sym, ap, _∙_, subst}
-use mathlib.Core.Bool.{Bool, true, false, not}
+use mathlib.Core.Path.{_≡_, refl, sym, ap, _∙_}
+use mathlib.Core.Bool.{true, false, not}
 use mathlib.Core.List.{List, [], _∷_}
 use Prim.Native.Nat.{ℕ, _-_, _/_, _≤_}
 use native.Mathlib.Omega.{arith}
 use lib.ListN.{length, take, drop}
-use Rattle.card.specs.Card.{Answer, Answer.accepted, Answer.refused, onLines}
-use Rattle.card.proofs.Cards.{refusing-yes, refusing-no}
+use borrow.Author.Tests.{not-false}
+use Rattle.card.specs.Card.{Answer, Answer.accepted, Answer.refused, refusing, onLines}
+use Rattle.card.proofs.Cards.{refusing-yes, refusing-no, refusing-passed}
+use Rattle.card.proofs.Fronts.{front, front-of, front-lines, front-refused}
+use Rattle.gates.specs.Records.{isRecord}
 use Rattle.cascades.specs.Inner.Checked.{Whole}
-use Rattle.cascades.specs.Answers.{onCascade, checkAnswer}
-use Rattle.cascades.proofs.Checks.{passed, check-whole, check-refused}
+use Rattle.cascades.specs.Answers.{onCascade}
+use Rattle.cascades.proofs.Answers.{front-records, behind-accepted}
+use Rattle.cascades.proofs.Checks.{passed}
 use Rattle.files.specs.Files.{trailerAt, count, linesIn, startOf, noteOf, recordsOf, frameOk, onFile, openingOf}
 use Rattle.files.proofs.Frames.{Right, right, frame-right, parts-end, trailer-fits, between-count, records-part, records-count}
 
@@ -23,29 +27,30 @@ module _ (z e : ℕ) (f : List ℕ) where
   on-file-on p x = refusing-no (not (frameOk z e f)) 9 0 _ (ap not p)
 
   -- a file that opens
-  pub record Opens (vs : List ℕ) : Type 0 where
+  pub record Opens : Type 0 where
     pub framed-right : Right z e f
     pub whole : Whole (linesIn f) (recordsOf z f) (count f)
-    pub is : vs ≡ linesIn f ∷ startOf z f ∷ trailerAt z f ∷ []
 
-  -- what the answer of opening says: a refusal is that of every call behind 9, 1, 6 and 7
-  abbrev pub OpeningSays : Answer → Type 0
-  OpeningSays (accepted vs) = Opens vs
-  OpeningSays (refused k p) = (x : Answer) → onFile z e f x ≡ refused k p
+  -- what stands behind 9, 1, 6 and 7 accepts: the file opens
+  pub file-accepted : (x : Answer) (vs : List ℕ) → onFile z e f x ≡ accepted vs → Opens × (x ≡ accepted vs)
+  unfolding onFile
+  file-accepted x vs says =
+      let framed = refusing-passed _ 9 0 _ vs says in
+      let r = right z e f (not-false _ (framed .0)) in
+      let behind = behind-accepted isRecord (linesIn f) (recordsOf z f) x vs (framed .1) in
+      (record { framed-right = r; whole = rw (← records-count z e f r) (behind .0) }, behind .1)
 
-  pub opening-says : (a : Answer) → openingOf z e f ≡ a → OpeningSays a
+  pub opening-accepted : (vs : List ℕ) → openingOf z e f ≡ accepted vs → Opens × (vs ≡ linesIn f ∷ startOf z f ∷ trailerAt z f ∷ [])
   unfolding openingOf
-  opening-says a says = subst OpeningSays says (go (frameOk z e f) (checkAnswer (linesIn f) (recordsOf z f)) refl refl)
-    where
-      go : (t : Bool) (c : Answer) → frameOk z e f ≡ t → checkAnswer (linesIn f) (recordsOf z f) ≡ c → OpeningSays (onFile z e f (accepted (linesIn f ∷ startOf z f ∷ trailerAt z f ∷ [])))
-      go false c p q = subst OpeningSays (sym (on-file-not p _)) (on-file-not p)
-      go true (refused k m) p q =
-          let behind : (x : Answer) → onFile z e f x ≡ refused k m = λ x. on-file-on p x ∙ check-refused (linesIn f) (recordsOf z f) k m x q in
-          subst OpeningSays (sym (behind (accepted (linesIn f ∷ startOf z f ∷ trailerAt z f ∷ [])))) behind
-      go true (accepted vs) p q =
-          let w = check-whole (linesIn f) (recordsOf z f) vs q in
-          let r = right z e f p in
-          subst OpeningSays (sym (on-file-on p _ ∙ passed (linesIn f) (recordsOf z f) _ _ w)) (record { framed-right = r; whole = rw (← records-count z e f r) w; is = refl })
+  opening-accepted vs says = let o = file-accepted _ vs says in (o .0, cc (o .1))
+
+  -- a refusal is that of every call behind 9, 1, 6 and 7
+  pub opening-refused : (k p : ℕ) → openingOf z e f ≡ refused k p → (x : Answer) → onFile z e f x ≡ refused k p
+  unfolding openingOf onFile
+  opening-refused k p says x =
+      front-refused (onFile z e f)
+      (front-of (refusing (not (frameOk z e f)) 9 0) _ (front (not (frameOk z e f)) 9 0)
+      (front-of (onLines (linesIn f)) _ (front-lines (linesIn f)) (front-records isRecord (linesIn f) (recordsOf z f)))) _ k p says x
 
   -- a file that opens is let through to what is behind
   pub on-file-passed : Right z e f → Whole (linesIn f) (recordsOf z f) (count f) → (x : Answer) → onFile z e f x ≡ x
@@ -72,14 +77,14 @@ module _ (z e : ℕ) (f : List ℕ) where
 
   pub opens-at : (n at end : ℕ) → openingOf z e f ≡ accepted (n ∷ at ∷ end ∷ []) → OpensAt n at end
   opens-at n at end says =
-      let o = opening-says (accepted (n ∷ at ∷ end ∷ [])) says in
-      let r = o .framed-right in
-      let first : at ≡ startOf z f = cc (o .is) in
-      let last : end ≡ trailerAt z f = cc (o .is) in
+      let o = opening-accepted (n ∷ at ∷ end ∷ []) says in
+      let r = o .0 .framed-right in
+      let first : at ≡ startOf z f = cc (o .1) in
+      let last : end ≡ trailerAt z f = cc (o .1) in
       record {
         framed-right = r;
-        whole = o .whole;
-        lines = cc (o .is);
+        whole = o .0 .whole;
+        lines = cc (o .1);
         first = first;
         last = last;
         ordered = omega (arith, parts-end z e f r);

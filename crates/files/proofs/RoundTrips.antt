@@ -1,19 +1,18 @@
 -- The two round trips of cascade files. `read-written`: reading what was written gives the lines, the records and the note. `written-read`: writing
 -- what was read from an accepted file gives that file, byte for byte. They rest on the laws of frames. Assumes nothing.
-use mathlib.Core.Path.{_≡_, refl, sym, _∙_}
+use mathlib.Core.Path.{_≡_, sym, _∙_}
 use mathlib.Core.List.{List, [], _∷_}
 use Prim.Native.Nat.{ℕ, _*_, _/_, _≤_}
 use native.Mathlib.Omega.{arith}
-use lib.ListN.{length, take, drop}
-use lib.Seq.{take-at}
-use Rattle.card.specs.Card.{Answer, Answer.accepted, after, laid}
+use lib.ListN.{length, take}
+use Rattle.card.specs.Card.{Answer.accepted, laid}
 use Rattle.card.proofs.Cards.{after-accepted, laid-front}
 use Rattle.cascades.specs.Cascades.{records}
 use Rattle.cascades.specs.Inner.Checked.{Whole}
 use Rattle.files.specs.Files.{fileOf, fileSize, writeAnswer, writeRoom, count, linesIn, startOf, noteOf, recordsOf, readAnswer, readRecords, readNote}
 use Rattle.files.specs.RoundTrips.{Bytes, GivesBack, GivesFile}
 use Rattle.files.proofs.Frames.{Right, fileWith, file-with, length-file, with-lines, with-count, with-start, with-note, with-records, with-right, file-again, length-note, length-records, records-count, parts-end, trailer-fits}
-use Rattle.files.proofs.Transfers.{read-says, read-accepted, write-says, write-accepted}
+use Rattle.files.proofs.Transfers.{reads-into, read-accepted, writes-into, write-accepted}
 
 -- the bytes that were written
 written : (n : ℕ) (b note room : List ℕ) (vs : List ℕ) → writeAnswer n b note (length room) ≡ accepted vs → take (fileSize 8 note b) (writeRoom n b note room) ≡ fileOf n note b
@@ -43,7 +42,7 @@ pub read-written : (n : ℕ) (b note room : List ℕ) (s : ℕ) → writeAnswer 
     → (recordRoom noteRoom : List ℕ) → records b ≤ length recordRoom / 8 → length note ≤ length noteRoom
     → GivesBack n b note (take s (writeRoom n b note room)) recordRoom noteRoom
 read-written n b note room s e recordRoom noteRoom fits fits′ =
-    let w = write-says n b note (length room) (accepted (s ∷ [])) e in
+    let w = writes-into n b note (length room) (s ∷ []) e in
     let size : s ≡ fileSize 8 note b = cc (w .is) in
     rw (size, written n b note room (s ∷ []) e) (read-file-of n b note recordRoom noteRoom (w .whole) (w .short) fits fits′)
 
@@ -63,7 +62,7 @@ pub written-read : (f recordRoom noteRoom : List ℕ) (n m k : ℕ) → Bytes f 
     → GivesFile n (take (8 * m) (readRecords f recordRoom noteRoom)) (take k (readNote f recordRoom noteRoom)) f room
 unfolding readRecords readNote
 written-read f recordRoom noteRoom n m k bytes e room fits =
-    let g = read-says f recordRoom noteRoom (accepted (n ∷ m ∷ k ∷ [])) e in
+    let g = reads-into f recordRoom noteRoom (n ∷ m ∷ k ∷ []) e in
     let r = g .opens .framed-right in
     let en : n ≡ linesIn f = cc (g .is) in
     let em : m ≡ count f = cc (g .is) in

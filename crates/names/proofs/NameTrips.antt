@@ -5,14 +5,13 @@ use mathlib.Core.List.{List, [], _∷_}
 use Prim.Native.Nat.{ℕ, _*_, _/_, _≤_}
 use lib.ListN.{length, take}
 use borrow.Author.Tests.{le-ltb}
-use Rattle.card.specs.Card.{Answer.accepted, onLines, laid}
+use Rattle.card.specs.Card.{Answer.accepted, laid}
 use Rattle.card.proofs.Cards.{refusing-no, refusing-passed, after-accepted, laid-front}
 use Rattle.cascades.specs.Cascades.{records, gatesOf, bytesOf}
-use Rattle.cascades.specs.Answers.{onRecords, onCascade}
 use Rattle.cascades.specs.Inner.Checked.{Whole}
 use Rattle.cascades.proofs.Cascades.{gates-count, whole-cascade}
 use Rattle.cascades.proofs.Checks.{passed}
-use Rattle.cascades.proofs.Answers.{behind-whole}
+use Rattle.cascades.proofs.Answers.{behind-accepted}
 use Rattle.cascades.proofs.Readings.{bytes-whole, bytes-gates, bytes-again}
 use Rattle.cascades.proofs.Stored.{length-bytes}
 use Rattle.gates.specs.declared.Gate.{Gate}
@@ -37,16 +36,11 @@ record Wrote (n : ℕ) (b : List ℕ) (s : ℕ) : Type 0 where
   size : s ≡ length (gateTexts otherName (gatesOf b))
 
 wrote : (n : ℕ) (b : List ℕ) (room s : ℕ) → writeNamesAnswer n b room ≡ accepted (s ∷ []) → Wrote n b s
-unfolding writeNamesAnswer onLines onRecords
+unfolding writeNamesAnswer
 wrote n b room s e =
-    let lines = refusing-passed _ 1 0 _ (s ∷ []) e in
-    let length-ok = refusing-passed _ 6 0 _ (s ∷ []) (lines .1) in
-    let records-ok = refusing-passed _ 7 _ _ (s ∷ []) (length-ok .1) in
-    let roomy = refusing-passed _ 5 _ _ (s ∷ []) (records-ok .1) in
-    let all : onLines n (onCascade n b (accepted [])) ≡ accepted [] =
-    refusing-no _ 1 0 _ (lines .0) ∙ refusing-no _ 6 0 _ (length-ok .0) ∙ refusing-no _ 7 _ _ (records-ok .0) in
-    let same : accepted (length (gateTexts otherName (gatesOf b)) ∷ []) ≡ accepted (s ∷ []) = roomy .1 in
-    record { whole = behind-whole isRecord n b [] [] all; size = cc }
+    let behind = behind-accepted isRecord n b _ (s ∷ []) e in
+    let same = refusing-passed _ 5 _ _ (s ∷ []) (behind .1) .1 in
+    record { whole = behind .0; size = cc }
 
 text-written : (n : ℕ) (b room : List ℕ) (s : ℕ) → writeNamesAnswer n b (length room) ≡ accepted (s ∷ []) → take s (writeNamesRoom n b room) ≡ gateTexts otherName (gatesOf b)
 unfolding writeNamesRoom

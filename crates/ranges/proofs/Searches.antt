@@ -1,5 +1,5 @@
 -- The laws of `first`: it is the only number with the property that one means, and one turn of a loop that searches. Assumes nothing.
-use mathlib.Core.Path.{_≡_, refl, sym, ap, _∙_}
+use mathlib.Core.Path.{_≡_, refl}
 use mathlib.Core.Logic.{_⊎_, ⊎-elim}
 use mathlib.Core.Bool.{Bool, true, false, cond}
 use Prim.Native.Nat.{ℕ, zero, suc, _+_, _-_, _≤_, _<_}
@@ -39,6 +39,12 @@ not-below f i e r s a b =
 
 pub found-unique : (f : ℕ → Bool) (i e r s : ℕ) → Found f i e r → Found f i e s → r ≡ s
 found-unique f i e r s a b = omega (arith, not-below f i e r s a b, not-below f i e s r b a)
+
+-- searches by tests that agree find the same
+pub first-ext : (f g : ℕ → Bool) (i m : ℕ) → ((k : ℕ) → i ≤ k → k < i + m → f k ≡ g k) → first f i m ≡ first g i m
+unfolding first
+first-ext f g i zero h = refl
+first-ext f g i (suc m) h = rw (h i (omega arith) (omega arith), first-ext f g (i + 1) m (λ k le lt. h k (omega arith) (omega arith)))
 
 -- a search behind one number more
 pub first-suc : (f g : ℕ → Bool) → ((k : ℕ) → f (suc k) ≡ g k) → (i m : ℕ) → first f (suc i) m ≡ suc (first g i m)

@@ -10,7 +10,7 @@ use Rattle.readers.specs.declared.held.Bounds.{Bounds}
 use Rattle.files.specs.Files.{openingAnswer, trailerAt, linesIn, startOf}
 use Rattle.readers.specs.Readers.{Opened}
 use Rattle.readers.specs.Inner.Held.{boundsOf, HeldPart}
-use Rattle.files.proofs.Openings.{opening-says}
+use Rattle.files.proofs.Openings.{opening-accepted}
 
 -- the numbers of an answer
 bounds-accepted : (n at end : ℕ) → boundsOf (accepted (n ∷ at ∷ end ∷ [])) ≡ record { end = end; at = at; lines = n }
@@ -25,10 +25,10 @@ bounds-refused k p = refl
 module _ (f p : RefT (List ℕ)) (b : Bounds) (numbers : b ≡ boundsOf (openingAnswer (now f))) (part : HeldPart (b .lines) f p) where
   numbers-found : (vs : List ℕ) → openingAnswer (now f) ≡ accepted vs → (p ≡ f) × ((b .lines ∷ b .at ∷ b .end ∷ []) ≡ vs)
   numbers-found vs e =
-      let o = opening-says 8 1 (now f) (accepted vs) e in
-      let q : b ≡ record { end = trailerAt 8 (now f); at = startOf 8 (now f); lines = linesIn (now f) } = numbers ∙ rw (e, o .is) (bounds-accepted (linesIn (now f)) (startOf 8 (now f)) (trailerAt 8 (now f))) in
+      let o = opening-accepted 8 1 (now f) vs e in
+      let q : b ≡ record { end = trailerAt 8 (now f); at = startOf 8 (now f); lines = linesIn (now f) } = numbers ∙ rw (e, o .1) (bounds-accepted (linesIn (now f)) (startOf 8 (now f)) (trailerAt 8 (now f))) in
       let lines : b .lines ≡ linesIn (now f) = ap (λ (x : Bounds). x .lines) q in
-      (part .itself (λ z. omega (arith, lines-are (linesIn (now f)) (o .whole .lines))), ap (λ (x : Bounds). x .lines ∷ x .at ∷ x .end ∷ []) q ∙ sym (o .is))
+      (part .itself (λ z. omega (arith, lines-are (linesIn (now f)) (o .0 .whole .lines))), ap (λ (x : Bounds). x .lines ∷ x .at ∷ x .end ∷ []) q ∙ sym (o .1))
 
   numbers-none : (k m : ℕ) → openingAnswer (now f) ≡ refused k m → (ptr p ≡ ptr f) × (now p ≡ []) × ((b .lines ∷ b .at ∷ b .end ∷ []) ≡ 0 ∷ 0 ∷ 0 ∷ [])
   numbers-none k m e =

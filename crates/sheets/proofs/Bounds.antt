@@ -1,29 +1,28 @@
 -- How long a file's text is. A file is refused or holds a permutation (`file-is`), whose cascade has at most 4,010 gates.
 -- `sheet-most` bounds the text of any bytes, `sheet-accepted` says that the program's room takes them all, and `cut-alike` that the bytes which the
 -- program does not read change nothing. Assumes nothing.
-use mathlib.Core.Path.{_≡_, sym, ap, _∙_}
+use mathlib.Core.Path.{_≡_, refl, sym, ap, _∙_}
 use mathlib.Core.Bool.{true, false}
 use mathlib.Core.Logic.{_⊎_}
 use mathlib.Core.List.{List, [], _∷_}
 use Prim.Native.Nat.{ℕ, _+_, _*_, _^_, _≤_, _<_}
 use native.Mathlib.Omega.{arith}
-use lib.Dec.{eqb}
 use lib.ListN.{length, take, length-take}
 use lib.Seq.{length-take-le, take-all, take-at, getD-take}
-use borrow.Author.Tests.{eqb-true, eqb-false, le-ltb}
+use borrow.Author.Tests.{le-ltb, not-false}
 use Rattle.ranges.proofs.Bools.{decide}
 use Rattle.ranges.proofs.Counts.{lt-or-le}
-use Rattle.card.specs.Card.{Answer.accepted, Answer.refused, linesOk, laid}
-use Rattle.card.proofs.Cards.{lines-are, refusing-no, after-accepted}
+use Rattle.card.specs.Card.{Answer, Answer.accepted, Answer.refused, linesOk, onLines, laid}
+use Rattle.card.proofs.Cards.{lines-are, refusing-no, refusing-passed, after-accepted}
 use Rattle.digits.proofs.Sizes.{patterns-most}
 use Rattle.tables.specs.Permutations.{Permutation}
-use Rattle.tables.proofs.Accepts.{Refuses, on-table-is, on-table-permutation}
+use Rattle.tables.proofs.Accepts.{table-accepted}
 use Rattle.synthesis.specs.Synthesis.{synthesized}
 use Rattle.synthesis.proofs.Synthesis.{bound-most, synthesized-bound, synthesized-cascade}
 use Rattle.texts.proofs.Decimals.{width-most}
 use Rattle.listings.proofs.Lengths.{listing-lines}
 use Rattle.sheets.specs.Sheets.{linesOf, entriesOf, fileAnswer, sheetText, sheetAnswer, sheetRoom}
-use Rattle.sheets.proofs.SheetAnswers.{file-lines, file-broken, file-whole, refusal-parts, refusal-length, text-listing}
+use Rattle.sheets.proofs.SheetAnswers.{file-lines, file-broken, refusal-parts, refusal-length, text-listing}
 
 -- the file is refused
 pub record FileRefused (f : List ℕ) : Type 0 where
@@ -37,18 +36,20 @@ pub record FileGood (f : List ℕ) : Type 0 where
   pub permutation : Permutation (3 ^ linesOf f) (entriesOf f)
   pub is : fileAnswer f ≡ accepted []
 
+file-good : (f : List ℕ) (vs : List ℕ) → fileAnswer f ≡ accepted vs → FileGood f
+unfolding fileAnswer onLines
+file-good f vs e =
+    let lines = refusing-passed _ 1 0 _ vs e in
+    let whole = refusing-passed _ 2 0 _ vs (lines .1) in
+    let table = table-accepted (3 ^ linesOf f) (entriesOf f) (accepted []) vs (whole .1) in
+    record { lines = not-false _ (lines .0); permutation = table .0; is = e ∙ sym (table .1) }
+
 pub file-is : (f : List ℕ) → FileRefused f ⊎ FileGood f
-file-is f = go (decide (linesOk (linesOf f))) (decide (eqb (length f) (1 + 2 * 3 ^ linesOf f))) (on-table-is (3 ^ linesOf f) (entriesOf f))
+file-is f = go (fileAnswer f) refl
   where
-    go : (linesOk (linesOf f) ≡ true) ⊎ (linesOk (linesOf f) ≡ false)
-        → (eqb (length f) (1 + 2 * 3 ^ linesOf f) ≡ true) ⊎ (eqb (length f) (1 + 2 * 3 ^ linesOf f) ≡ false)
-        → Permutation (3 ^ linesOf f) (entriesOf f) ⊎ Refuses (3 ^ linesOf f) (entriesOf f) → FileRefused f ⊎ FileGood f
-    go (_⊎_.inr bad) s t = _⊎_.inl (record { number = 1; place = 0; is = file-lines f bad })
-    go (_⊎_.inl ok) (_⊎_.inr ne) t = _⊎_.inl (record { number = 2; place = 0; is = file-broken f ok (eqb-false (length f) (1 + 2 * 3 ^ linesOf f) ne) })
-    go (_⊎_.inl ok) (_⊎_.inl e) (_⊎_.inr r) =
-        _⊎_.inl (record { number = r .number; place = r .place; is = file-whole f ok (eqb-true (length f) (1 + 2 * 3 ^ linesOf f) e) ∙ r .always (accepted []) })
-    go (_⊎_.inl ok) (_⊎_.inl e) (_⊎_.inl perm) =
-        _⊎_.inr (record { lines = ok; permutation = perm; is = file-whole f ok (eqb-true (length f) (1 + 2 * 3 ^ linesOf f) e) ∙ on-table-permutation (3 ^ linesOf f) (entriesOf f) perm (accepted []) })
+    go : (a : Answer) → fileAnswer f ≡ a → FileRefused f ⊎ FileGood f
+    go (refused k p) e = _⊎_.inl (record { number = k; place = p; is = e })
+    go (accepted vs) e = _⊎_.inr (file-good f vs e)
 
 -- 31 bytes for each of 4,010 gates and for the head line
 pub sheet-most : (f : List ℕ) → length (sheetText f) ≤ 124341

@@ -2,7 +2,6 @@
 -- `listing-sheet` and `room-sheet` say that to list the cascade's records is to write the file's text. Assumes nothing.
 use mathlib.Core.Path.{_≡_, sym, ap, _∙_}
 use mathlib.Core.Bool.{true, false, not}
-use mathlib.Core.Logic.{_⊎_}
 use mathlib.Core.List.{List, [], _∷_, _++_, append-assoc}
 use Prim.Native.Nat.{ℕ, _+_, _*_, _/_, _^_, _≤_, _<_}
 use native.Mathlib.Omega.{arith}
@@ -10,10 +9,11 @@ use lib.ListN.{length, length-append}
 use lib.Seq.{sets}
 use borrow.Author.Tests.{eq-eqb, ne-eqb, lt-ltb, le-ltb}
 use Rattle.card.specs.Card.{Answer.accepted, Answer.refused, linesOk, after, laid}
+use Rattle.card.proofs.Fronts.{front-refused}
 use Rattle.card.proofs.Cards.{lines-are, no-lines, good-lines, refusing-yes, refusing-no, refused-both, accepted-both, sets-laid}
 use Rattle.tables.specs.Tables.{onTable}
 use Rattle.tables.specs.Permutations.{Permutation}
-use Rattle.tables.proofs.Accepts.{Refuses, on-table-is, on-table-permutation}
+use Rattle.tables.proofs.Accepts.{front-table, table-accepted, on-table-permutation}
 use Rattle.cascades.specs.Cascades.{gatesOf, bytesOf}
 use Rattle.cascades.proofs.Checks.{passed}
 use Rattle.cascades.proofs.Readings.{bytes-whole, bytes-gates}
@@ -101,26 +101,15 @@ module _ (f : List ℕ) (n : ℕ) (h : TableFile f n) (t : List ℕ) (entries : 
     -- a refusal is the file's
     pub made-refused : (k p : ℕ) → refused k p ≡ synthesizeAnswer n t L → fileAnswer f ≡ refused k p
     unfolding synthesizeAnswer
-    made-refused k p e = go (on-table-is (3 ^ n) t)
-      where
-        go : Permutation (3 ^ n) t ⊎ Refuses (3 ^ n) t → fileAnswer f ≡ refused k p
-        go (_⊎_.inl perm) =
-            let a : refused k p ≡ accepted (length (synthesized n t) ∷ []) = e ∙ made perm in
-            let z : _≡_ {A = ℕ} 0 1 = cc in
-            absurd (omega arith)
-        go (_⊎_.inr r) = file-on-table ∙ r .always (accepted []) ∙ sym (r .always _) ∙ sym (good-lines n _ (h .lines)) ∙ sym e
+    made-refused k p e =
+        let behind : onTable (3 ^ n) t (accepted (length (synthesized n t) ∷ [])) ≡ refused k p =
+        ap (onTable (3 ^ n) t) (sym (refusing-no _ 5 _ _ (le-ltb (L / 8) (bound n) wide))) ∙ sym (good-lines n _ (h .lines)) ∙ sym e in
+        file-on-table ∙ front-refused (onTable (3 ^ n) t) (front-table (3 ^ n) t) _ k p behind (accepted [])
 
     -- accepted, the table is a permutation
     pub made-permutation : (vs : List ℕ) → accepted vs ≡ synthesizeAnswer n t L → Permutation (3 ^ n) t
     unfolding synthesizeAnswer
-    made-permutation vs e = go (on-table-is (3 ^ n) t)
-      where
-        go : Permutation (3 ^ n) t ⊎ Refuses (3 ^ n) t → Permutation (3 ^ n) t
-        go (_⊎_.inl perm) = perm
-        go (_⊎_.inr r) =
-            let a : accepted vs ≡ refused (r .number) (r .place) = e ∙ good-lines n _ (h .lines) ∙ r .always _ in
-            let z : _≡_ {A = ℕ} 0 1 = cc in
-            absurd (omega arith)
+    made-permutation vs e = table-accepted (3 ^ n) t _ vs (sym (good-lines n _ (h .lines)) ∙ sym e) .0
 
     pub made-count : (m : ℕ) → accepted (m ∷ []) ≡ synthesizeAnswer n t L → m ≡ length (synthesized n t)
     made-count m e =

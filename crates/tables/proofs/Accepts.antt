@@ -1,4 +1,4 @@
--- Which tables are accepted. `on-table-is` says which case `onTable` is, `checked-refused` and `checked-accepted` what a check leaves to the calls that go on,
+-- Which tables are accepted. `table-accepted` says what an answer behind 2, 3 and 4 tells, `checked-refused` and `checked-accepted` what a check leaves to the calls that go on,
 -- and `accepted-iff` that a table is accepted exactly if the lines are 1 to 6 and it is a permutation of the patterns.
 -- It rests on what the first entry with a property says of those before it. Assumes nothing.
 use mathlib.Core.Path.{_≡_, sym, ap, _∙_}
@@ -9,14 +9,15 @@ use Prim.Native.Nat.{ℕ, _^_, _≤_, _<_}
 use native.Mathlib.Omega.{arith}
 use lib.Dec.{eqb, ltb}
 use lib.ListN.{length, getD}
-use borrow.Author.Tests.{eqb-true, eqb-false, eq-eqb, ne-eqb, ltb-true, ltb-false, lt-ltb, le-ltb, leb-false, lt-leb}
+use borrow.Author.Tests.{eqb-true, eqb-false, eq-eqb, ne-eqb, ltb-true, ltb-false, lt-ltb, le-ltb, leb-false, lt-leb, not-false}
 use Rattle.ranges.specs.Ranges.{first}
 use Rattle.ranges.proofs.Bools.{decide, clash}
 use Rattle.ranges.proofs.Counts.{lt-or-le}
 use Rattle.ranges.proofs.Tests.{some-none, some-not}
 use Rattle.ranges.proofs.Searches.{found}
 use Rattle.card.specs.Card.{Answer, Answer.accepted, Answer.refused, refusing, linesOk, onLines}
-use Rattle.card.proofs.Cards.{not-accepted, refusing-yes, refusing-no, no-lines, good-lines}
+use Rattle.card.proofs.Cards.{refusing-yes, refusing-no, refusing-passed, good-lines}
+use Rattle.card.proofs.Fronts.{Front, front, front-of, front-lines, front-refused}
 use Rattle.tables.specs.Tables.{tooLarge, repeated, firstLarge, firstRepeated, onTable, checkTableAnswer}
 use Rattle.tables.specs.Permutations.{Permutation}
 
@@ -31,12 +32,6 @@ none f m h =
     (λ (e : ltb (first f 0 m) m ≡ false). e) (decide (ltb (first f 0 m) m))
 
 -- ---- the cases of `onTable`
-
--- the table is refused by number and place, whatever the call would answer
-pub record Refuses (m : ℕ) (t : List ℕ) : Type 0 where
-  pub number : ℕ
-  pub place : ℕ
-  pub always : (x : Answer) → onTable m t x ≡ refused number place
 
 module _ (m : ℕ) (t : List ℕ) where
   module _ (x : Answer) where
@@ -96,19 +91,21 @@ module _ (m : ℕ) (t : List ℕ) where
   pub on-table-permutation : Permutation m t → (x : Answer) → onTable m t x ≡ x
   on-table-permutation w x = on-table-none x (w .size) (none-large w) (none-repeated w)
 
-  -- a table is a permutation, or always refused
-  pub on-table-is : Permutation m t ⊎ Refuses m t
-  on-table-is = go (decide (eqb (length t) m)) (decide (ltb (firstLarge m t) (length t))) (decide (ltb (firstRepeated t) (length t)))
-    where
-      go : (eqb (length t) m ≡ true) ⊎ (eqb (length t) m ≡ false)
-          → (ltb (firstLarge m t) (length t) ≡ true) ⊎ (ltb (firstLarge m t) (length t) ≡ false)
-          → (ltb (firstRepeated t) (length t) ≡ true) ⊎ (ltb (firstRepeated t) (length t) ≡ false) → Permutation m t ⊎ Refuses m t
-      go (_⊎_.inr e) f g = _⊎_.inr (record { number = 2; place = 0; always = λ x. on-table-size x (eqb-false (length t) m e) })
-      go (_⊎_.inl e) (_⊎_.inl f) g =
-          _⊎_.inr (record { number = 3; place = firstLarge m t; always = λ x. on-table-large x (eqb-true (length t) m e) f })
-      go (_⊎_.inl e) (_⊎_.inr f) (_⊎_.inl g) =
-          _⊎_.inr (record { number = 4; place = firstRepeated t; always = λ x. on-table-repeated x (eqb-true (length t) m e) f g })
-      go (_⊎_.inl e) (_⊎_.inr f) (_⊎_.inr g) = _⊎_.inl (permutation-of (eqb-true (length t) m e) f g)
+  pub front-table : Front (onTable m t)
+  unfolding onTable
+  front-table =
+      front-of (refusing (not (eqb (length t) m)) 2 0) _ (front (not (eqb (length t) m)) 2 0)
+      (front-of (refusing (ltb (firstLarge m t) (length t)) 3 (firstLarge m t)) _ (front (ltb (firstLarge m t) (length t)) 3 (firstLarge m t))
+      (front (ltb (firstRepeated t) (length t)) 4 (firstRepeated t)))
+
+  -- accepted: the table is a permutation, and what stands behind 2, 3 and 4 accepts
+  pub table-accepted : (x : Answer) (vs : List ℕ) → onTable m t x ≡ accepted vs → Permutation m t × (x ≡ accepted vs)
+  unfolding onTable
+  table-accepted x vs e =
+      let size = refusing-passed _ 2 0 _ vs e in
+      let large = refusing-passed _ 3 _ _ vs (size .1) in
+      let repeats = refusing-passed _ 4 _ x vs (large .1) in
+      (permutation-of (eqb-true (length t) m (not-false _ (size .0))) (large .0) (repeats .0), repeats .1)
 
   -- ---- the cases as the check's code meets them
 
@@ -137,21 +134,14 @@ module _ (n : ℕ) (t : List ℕ) where
   -- what a check refuses, every call on the table refuses alike
   pub checked-refused : (k p : ℕ) → checkTableAnswer n t ≡ refused k p → (x : Answer) → onLines n (onTable (3 ^ n) t x) ≡ refused k p
   unfolding checkTableAnswer
-  checked-refused k p e x = go (decide (linesOk n)) (on-table-is (3 ^ n) t)
-    where
-      go : (linesOk n ≡ true) ⊎ (linesOk n ≡ false) → Permutation (3 ^ n) t ⊎ Refuses (3 ^ n) t → onLines n (onTable (3 ^ n) t x) ≡ refused k p
-      go (_⊎_.inr bad) c = no-lines n _ bad ∙ sym (no-lines n _ bad) ∙ e
-      go (_⊎_.inl ok) (_⊎_.inl w) = not-accepted k p [] (sym e ∙ good-lines n _ ok ∙ on-table-permutation (3 ^ n) t w (accepted []))
-      go (_⊎_.inl ok) (_⊎_.inr r) = good-lines n _ ok ∙ r .always x ∙ sym (r .always (accepted [])) ∙ sym (good-lines n _ ok) ∙ e
+  checked-refused k p e x =
+      front-refused (λ y. onLines n (onTable (3 ^ n) t y)) (front-of (onLines n) (onTable (3 ^ n) t) (front-lines n) (front-table (3 ^ n) t)) [] k p e x
 
   pub accepted-permutation : checkTableAnswer n t ≡ accepted [] → (linesOk n ≡ true) × Permutation (3 ^ n) t
-  unfolding checkTableAnswer
-  accepted-permutation e = go (decide (linesOk n)) (on-table-is (3 ^ n) t)
-    where
-      go : (linesOk n ≡ true) ⊎ (linesOk n ≡ false) → Permutation (3 ^ n) t ⊎ Refuses (3 ^ n) t → (linesOk n ≡ true) × Permutation (3 ^ n) t
-      go (_⊎_.inr bad) c = not-accepted 1 0 [] (sym (no-lines n _ bad) ∙ e)
-      go (_⊎_.inl ok) (_⊎_.inl w) = (ok, w)
-      go (_⊎_.inl ok) (_⊎_.inr r) = not-accepted (r .number) (r .place) [] (sym (r .always (accepted [])) ∙ sym (good-lines n _ ok) ∙ e)
+  unfolding checkTableAnswer onLines
+  accepted-permutation e =
+      let lines = refusing-passed _ 1 0 _ [] e in
+      (not-false _ (lines .0), table-accepted (3 ^ n) t (accepted []) [] (lines .1) .0)
 
   pub permutation-passed : linesOk n ≡ true → Permutation (3 ^ n) t → (x : Answer) → onLines n (onTable (3 ^ n) t x) ≡ x
   permutation-passed ok w x = good-lines n _ ok ∙ on-table-permutation (3 ^ n) t w x

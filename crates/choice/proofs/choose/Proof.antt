@@ -11,8 +11,9 @@ use Rattle.cascades.specs.Cascades.{gatesOf}
 use Rattle.cascades.specs.Prices.{cascadePrice}
 use Rattle.cascades.specs.Answers.{pricedAs, priceAnswer}
 use Rattle.cascades.proofs.Cascades.{gates-count}
+use Rattle.cascades.proofs.Checks.{HasPrice, price-accepted}
 use Rattle.choice.specs.Choice.{secondWins, chooseAnswer}
-use Rattle.choice.proofs.Choices.{Costs, price-says, choose-first, choose-second, choose-differ, choose-same}
+use Rattle.choice.proofs.Choices.{choose-first, choose-second, choose-differ, choose-same}
 use borrow.Author.Needs.{needs}
 use Rattle.choice.proofs.choose.Statement.{statement}
 use Rattle.choice.proofs.choose.Tie as tie
@@ -34,7 +35,7 @@ module _ (c : tie.After-known-told4) where
   second-priced = sym (c .before .before .before .price2 .ensures) ∙ ap pricedAs (c .before .two .given .1)
 
 -- the test of `second_wins`, on the prices and counts of the two
-wins : (n v : ℕ) (b c : List ℕ) (x y : ℕ) (t : Bool) → Costs n v b (x ∷ []) → Costs n v c (y ∷ []) → t ≡ (ltb y x || eqb y x && ltb (length c / 8) (length b / 8)) → secondWins v (gatesOf b) (gatesOf c) ≡ t
+wins : (n v : ℕ) (b c : List ℕ) (x y : ℕ) (t : Bool) → HasPrice n b v (x ∷ []) → HasPrice n c v (y ∷ []) → t ≡ (ltb y x || eqb y x && ltb (length c / 8) (length b / 8)) → secondWins v (gatesOf b) (gatesOf c) ≡ t
 unfolding secondWins
 wins n v b c x y t p q e =
     let f : x ≡ cascadePrice v (gatesOf b) = cc (p .is) in
@@ -50,8 +51,8 @@ module _ (c : tie.After-second-wins) where
       let d = c .before .before .before .before in
       let one = first-priced (d .before .before .before .before) in
       let two = second-priced d in
-      sym (choose-same _ _ _ _ _ _ one two _ t (c .before .before .before .first-difference .ensures) (rw (c .before .before .power .ensures) at (c .before .if1 .left))
-      (wins _ _ _ _ _ _ t (price-says _ _ _ _ one) (price-says _ _ _ _ two) (sym e ∙ c .second-wins .ensures)))
+      sym (choose-same _ _ _ _ _ one _ two _ t (c .before .before .before .first-difference .ensures) (rw (c .before .before .power .ensures) at (c .before .if1 .left))
+      (wins _ _ _ _ _ _ t (price-accepted _ _ _ _ one) (price-accepted _ _ _ _ two) (sym e ∙ c .second-wins .ensures)))
 
 price-requires : tie.Need-price-requires
 price-requires c κs = search needs
@@ -72,10 +73,10 @@ enum-known-two : tie.Need-enum-known-two
 enum-known-two c = search needs
 
 first-difference-requires : tie.Need-first-difference-requires
-first-difference-requires c κs = (price-says _ _ _ _ (first-priced (c .before .before .before .before)) .whole, price-says _ _ _ _ (second-priced c) .whole)
+first-difference-requires c κs = (price-accepted _ _ _ _ (first-priced (c .before .before .before .before)) .whole, price-accepted _ _ _ _ (second-priced c) .whole)
 
 power-requires : tie.Need-power-requires
-power-requires c κs = lines-are _ (price-says _ _ _ _ (second-priced (c .before)) .whole .lines) .1
+power-requires c κs = lines-are _ (price-accepted _ _ _ _ (second-priced (c .before)) .whole .lines) .1
 
 cast-if1 : tie.Need-cast-if1
 cast-if1 c = search needs
@@ -83,7 +84,7 @@ cast-if1 c = search needs
 returns : tie.Need-returns
 returns c =
     let d = c .before .before .before in
-    sym (choose-differ _ _ _ _ _ _ (first-priced (d .before .before .before .before)) (second-priced d) _ (c .before .before .first-difference .ensures) (rw (c .before .power .ensures) at (c .if1 .taken)))
+    sym (choose-differ _ _ _ _ _ (first-priced (d .before .before .before .before)) _ (second-priced d) _ (c .before .before .first-difference .ensures) (rw (c .before .power .ensures) at (c .if1 .taken)))
 
 second-wins-requires : tie.Need-second-wins-requires
 second-wins-requires c κs = search needs
@@ -94,7 +95,7 @@ returns-2 c = sym (choose-first _ _ _ _ _ _ (sym (c .before .before .before .pri
 returns-3 : tie.Need-returns-3
 returns-3 c =
     let d = c .before .before .before in
-    sym (choose-second _ _ _ _ _ _ _ (first-priced (d .before)) (sym (d .price2 .ensures) ∙ ap pricedAs (c .before .number2 .given .1)))
+    sym (choose-second _ _ _ _ _ (first-priced (d .before)) _ _ (sym (d .price2 .ensures) ∙ ap pricedAs (c .before .number2 .given .1)))
 
 returns-4 : tie.Need-returns-4
 returns-4 c = decided (c .before) true (c .if2 .taken)

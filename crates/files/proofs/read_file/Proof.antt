@@ -7,7 +7,7 @@ use lib.Seq.{length-take-le}
 use Rattle.card.proofs.Cards.{sets-laid}
 use Rattle.files.specs.Files.{openingAs, count, startOf, readAnswer}
 use Rattle.files.proofs.Frames.{length-note, length-records}
-use Rattle.files.proofs.Openings.{OpensAt, opening-says, opens-at}
+use Rattle.files.proofs.Openings.{OpensAt, opening-refused, opens-at}
 use Rattle.files.proofs.Transfers.{read-refused, read-records-small, read-note-small, read-done}
 use borrow.Author.Needs.{needs}
 use Rattle.files.proofs.read_file.Statement.{statement}
@@ -75,7 +75,7 @@ copy-bytes-requires-2 c κs =
 returns-3 : tie.Need-returns-3
 unfolding readAnswer
 returns-3 c =
-    read-refused _ _ _ _ _ (opening-says _ _ _ _ (sym (c .before .before .before .opening .ensures) ∙ ap openingAs (c .before .number .given .1)) _)
+    read-refused _ _ _ _ _ (opening-refused _ _ _ _ _ (sym (c .before .before .before .opening .ensures) ∙ ap openingAs (c .before .number .given .1)) _)
 
 same-length : tie.Need-same-length
 same-length c = search needs

@@ -1,24 +1,20 @@
 -- `listings::listing` meets its contract: each return is a case of `listingAnswer`. Assumes nothing.
 use mathlib.Core.Path.{_≡_, sym, ap, _∙_}
 use mathlib.Core.List.{[], _∷_}
-use Prim.Native.Nat.{ℕ, _≤_}
+use Prim.Native.Nat.{ℕ}
 use borrow.Author.Tests.{lt-ltb, le-ltb}
 use native.Mathlib.Nat.{zero-add}
 use lib.ListN.{length}
-use native.Mathlib.Omega.{arith}
-use Rattle.card.specs.Card.{Answer.accepted}
+use Rattle.card.specs.Card.{Answer.accepted, refusing}
 use Rattle.card.proofs.Cards.{refusing-yes, refusing-no, refused-both, accepted-both, sets-laid}
 use Rattle.cascades.specs.Cascades.{records, gatesOf}
 use Rattle.cascades.specs.Inner.Checked.{Whole}
 use Rattle.cascades.specs.Answers.{pricedAs, priceAnswer}
-use Rattle.cascades.proofs.Checks.{passed, price-whole, price-value, price-refused}
+use Rattle.cascades.proofs.Checks.{passed, price-accepted, price-refused}
 use Rattle.listings.specs.Listings.{listingWith, listingText, listingAnswer, listingRoom}
 use borrow.Author.Needs.{needs}
 use Rattle.listings.proofs.listing.Statement.{statement}
 use Rattle.listings.proofs.listing.Tie as tie
-
-two-most : 2 ≤ 2
-two-most = omega arith
 
 -- what pricing has found
 module _ (c : tie.After-known-told2) where
@@ -29,13 +25,14 @@ module _ (c : tie.After-known-told2) where
   found = sym (c .before .before .before .price .ensures) ∙ ap pricedAs (c .before .cost .given .1)
 
   whole : (let a = given .args in Whole (a .lines) (a .cascade .now) (records (a .cascade .now)))
-  whole = price-whole _ _ 2 two-most _ found
+  whole = price-accepted _ _ 2 _ found .whole
 
   text : (let a = given .args in listingWith (a .lines) (c .before .cost .given .0 .0) (gatesOf (a .cascade .now)) ≡ listingText (a .lines) (gatesOf (a .cascade .now)))
   unfolding listingText
   text =
       let a = given .args in
-      ap (λ (cost : ℕ). listingWith (a .lines) cost (gatesOf (a .cascade .now))) (price-value _ _ 2 two-most _ found)
+      let p = price-accepted _ _ 2 _ found in
+      ap (λ (cost : ℕ). listingWith (a .lines) cost (gatesOf (a .cascade .now))) (cc (p .is))
 
 price-requires : tie.Need-price-requires
 price-requires c κs = search needs
@@ -60,10 +57,10 @@ write-listing-requires : tie.Need-write-listing-requires
 write-listing-requires c κs = (whole (c .before .before .before), rw (c .before .before .size-listing .ensures) at (c .before .if1 .left))
 
 returns-2 : tie.Need-returns-2
-unfolding listingAnswer listingRoom
+unfolding listingAnswer listingRoom refusing
 returns-2 c =
     let e = sym (c .before .before .before .price .ensures) ∙ ap pricedAs (c .before .number .given .1) in
-    refused-both _ _ _ _ _ (price-refused _ _ 2 two-most _ _ _ e)
+    refused-both _ _ _ _ _ (price-refused _ _ 2 _ _ _ e)
 
 same-length : tie.Need-same-length
 same-length c = search needs
