@@ -29,7 +29,7 @@ enum-told c = search needs
 
 returns : tie.Need-returns
 unfolding writeRoom
-returns c = refused-both _ _ _ _ _ (write-note-long _ _ _ _ (whole (c .before)) (c .if1 .taken))
+returns c = refused-both _ _ _ _ _ (write-note-long _ _ _ _ (whole (c .before)) (omega (arith, c .if1 .taken)))
 
 add-size : tie.Need-add-size
 add-size c = let w = whole (c .before) in omega (arith, w .size, w .most, c .if1 .left)

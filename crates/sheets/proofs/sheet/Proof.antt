@@ -1,6 +1,7 @@
 -- `sheets::sheet` meets its contract: 1 by the first byte, 2 by the length, and else the entries' sheet. Assumes nothing.
 use mathlib.Core.Path.{_≡_, sym, _∙_}
 use mathlib.Core.Bool.{true}
+use native.Mathlib.Omega.{arith}
 use borrow.Author.Tests.{not-true, not-false}
 use Rattle.card.specs.Card.{linesOk}
 use Rattle.card.proofs.Cards.{lines-are}
@@ -50,7 +51,7 @@ list-refusal-requires-2 c κs =
     let d = c .before .before .before in
     let n = d .before .before .lines-of .ensures in
     let p = rw n at (c .before .before .power .ensures) in
-    file-broken _ (rw n at (six d)) (rw p at (c .before .if2 .taken))
+    file-broken _ (rw n at (six d)) (λ e. omega (arith, p, c .before .if2 .taken, e))
 
 same-length-2 : tie.Need-same-length-2
 same-length-2 c = search needs

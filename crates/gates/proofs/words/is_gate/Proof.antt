@@ -10,10 +10,10 @@ returns : tie.Need-returns
 returns c = sym (word-op-low _ _ (c .if1 .taken))
 
 returns-2 : tie.Need-returns-2
-returns-2 c = sym (word-op-high _ _ (c .if2 .taken))
+returns-2 c = sym (word-op-high _ _ (omega (arith, c .if2 .taken)))
 
 returns-3 : tie.Need-returns-3
-returns-3 c = sym (word-target _ _ (c .if3 .taken))
+returns-3 c = sym (word-target _ _ (omega (arith, c .if3 .taken)))
 
 bare-bytes-requires : tie.Need-bare-bytes-requires
 bare-bytes-requires c κs = (lines-are _ (c .before .before .before .pre) .1, omega (arith, c .if3 .left))

@@ -2,7 +2,8 @@
 use mathlib.Core.Path.{_≡_, sym, _∙_}
 use Prim.Native.Nat.{_-_, _≤_}
 use native.Mathlib.Nat.{sub-zero}
-use lib.ListN.{length}
+use native.Mathlib.Omega.{arith}
+use lib.ListN.{length, getD}
 use borrow.Author.Tests.{le-leb, lt-leb}
 use borrow.Author.Needs.{needs}
 use Rattle.ranges.specs.Ranges.{first}
@@ -30,8 +31,10 @@ shared-slice-read-if1 c = search needs
 returns : tie.Need-returns Inv-loop μ-loop
 unfolding tooLarge
 returns c =
-    sym (first-hit _ _ _ (c .before .before .loop-test .taken) (le-leb _ _ (c .if1 .taken)))
-    ∙ c .before .before .before .loop .inv .1
+    let l = c .before .before .before in
+    let a = l .before .args in
+    let large : a .patterns ≤ getD (a .table .now) (l .loop .i) 0 = omega (arith, c .if1 .taken) in
+    sym (first-hit _ _ _ (c .before .before .loop-test .taken) (le-leb _ _ large)) ∙ l .loop .inv .1
 
 add-i : tie.Need-add-i Inv-loop μ-loop
 add-i c = search needs
