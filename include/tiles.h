@@ -17,6 +17,9 @@
  *   room     memory lent to be written to.
  *   value    the global control value, 0, 1 or 2: a control of any other value
  *            costs 2 more.
+ *   fitted   which of D, E and N the board has, at least one: 1 for D, 2 for E
+ *            and 4 for N, added, so 7 if it has all. A gate whose operator it
+ *            lacks costs 1 more. C1 and C2 are on every board.
  *
  * Answers
  *   Every call answers a struct tiles_answer. `number` is 0 if the call was
@@ -42,6 +45,7 @@
  *                                                              which they differ
  *       12    a line of a text isn't that of a gate on these
  *             lines                                            first such line
+ *       13    the fitted set is 0 or above 7                   0
  *
  *   Entries, gates, inputs and lines count from 0. The size needed counts whole
  *   records in a room for records, entries in a room for a table, and bytes in
@@ -118,9 +122,11 @@ struct tiles_answer tiles_tabulate(uint8_t lines, const uint8_t *cascade, size_t
 struct tiles_answer tiles_invert(uint8_t lines, const uint8_t *cascade, size_t len,
                                  uint8_t *room, size_t room_len);
 
-/* What the cascade costs under a global control value.
- * Refusals 1, 10, 6, 7. first: the cost. */
-struct tiles_answer tiles_price(uint8_t lines, uint8_t value, const uint8_t *cascade, size_t len);
+/* What the cascade costs under a global control value on a board with such
+ * operators fitted.
+ * Refusals 1, 10, 13, 6, 7. first: the cost. */
+struct tiles_answer tiles_price(uint8_t lines, uint8_t value, uint8_t fitted,
+                                const uint8_t *cascade, size_t len);
 
 /* Tidies the cascade where it lies: the gates left stand first, in order, and
  * the records freed at the end become zero bytes (which are no gates: cut them
@@ -128,11 +134,12 @@ struct tiles_answer tiles_price(uint8_t lines, uint8_t value, const uint8_t *cas
  * Refusals 1, 6, 7. first: the gates left, second: the steps taken. */
 struct tiles_answer tiles_tidy(uint8_t lines, uint8_t *cascade, size_t len);
 
-/* Which of two cascades that compute the same table costs less; then the one
- * with fewer gates; then the first.
- * Refusals 1, 10, 6 and 7 of the first, 6 and 7 of the second, 11.
+/* Which of two cascades that compute the same table costs less on such a board;
+ * then the one with fewer gates; then the first.
+ * Refusals 1, 10, 13, 6 and 7 of the first, 6 and 7 of the second, 11.
  * first: 1 for the first, 2 for the second. */
-struct tiles_answer tiles_choose(uint8_t lines, uint8_t value, const uint8_t *a, size_t a_len,
+struct tiles_answer tiles_choose(uint8_t lines, uint8_t value, uint8_t fitted,
+                                 const uint8_t *a, size_t a_len,
                                  const uint8_t *b, size_t b_len);
 
 /* Writes a cascade file: the note, the records, the trailer.
@@ -165,9 +172,9 @@ struct tiles_answer tiles_opening(const uint8_t *file, size_t len);
 struct tiles_answer tiles_next(const uint8_t *file, size_t len, uint8_t lines, size_t place,
                                size_t end);
 
-/* Writes the listing: a head line with lines, gates and the cost at value 2,
- * then a line for each gate. Each line ends with a newline; no zero byte is
- * added.
+/* Writes the listing: a head line with lines, gates and the cost at value 2 with
+ * all operators fitted, then a line for each gate. Each line ends with a newline;
+ * no zero byte is added.
  * Refusals 1, 6, 7, 5 (bytes). first: the bytes written. */
 struct tiles_answer tiles_listing(uint8_t lines, const uint8_t *cascade, size_t len,
                                   uint8_t *room, size_t room_len);

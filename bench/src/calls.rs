@@ -11,7 +11,7 @@ use second::gate::{Gate, RECORD};
 use second::{cascade, choice, file, listing, names, sheet, synthesis, table, tabulating, tidying};
 
 use crate::clock::{race, race_changing, race_in_turn, Times};
-use crate::inputs::{bound, file_of, patterns, table_file, MOST_GATES};
+use crate::inputs::{bound, file_of, patterns, table_file, ALL_FITTED, MOST_GATES};
 
 const LIBRARY: Library = Library { null_if_empty: false };
 
@@ -113,12 +113,12 @@ impl Timer {
         )
     }
 
-    pub fn price(&self, lines: u8, cascade: &[u8]) -> [Times; 2] {
+    pub fn price(&self, lines: u8, fitted: u8, cascade: &[u8]) -> [Times; 2] {
         race(
             self.patience,
             (),
-            |_| proved(LIBRARY.price(lines, 2, cascade)),
-            |_| second(cascade::price(lines, 2, cascade)) as u64,
+            |_| proved(LIBRARY.price(lines, 2, fitted, cascade)),
+            |_| second(cascade::price(lines, 2, fitted, cascade)) as u64,
         )
     }
 
@@ -126,8 +126,8 @@ impl Timer {
         race(
             self.patience,
             (),
-            |_| proved(LIBRARY.choose(lines, 2, one, other)),
-            |_| second(choice::choose(lines, 2, one, other)) as u64,
+            |_| proved(LIBRARY.choose(lines, 2, ALL_FITTED, one, other)),
+            |_| second(choice::choose(lines, 2, ALL_FITTED, one, other)) as u64,
         )
     }
 

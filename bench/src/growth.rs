@@ -4,7 +4,9 @@ use second::hard::hard;
 
 use crate::calls::Timer;
 use crate::clock::Times;
-use crate::inputs::{drawn_cascade, drawn_tables, file_of, list_of, patterns, MOST_GATES};
+use crate::inputs::{
+    drawn_cascade, drawn_tables, file_of, list_of, patterns, ALL_FITTED, MOST_GATES,
+};
 use crate::report::{duration, grouped};
 
 const GATES: [usize; 5] = [500, 1_000, 2_000, 4_000, MOST_GATES];
@@ -24,7 +26,7 @@ fn with_gates(timer: &Timer) {
     line("check_cascade, drawn gates", &|gates| timer.check_cascade(6, &drawn(gates)));
     line("run, drawn gates", &|gates| timer.run(6, &drawn(gates)));
     line("tabulate, drawn gates", &|gates| timer.tabulate(6, &drawn(gates)));
-    line("price, drawn gates", &|gates| timer.price(6, &drawn(gates)));
+    line("price, drawn gates", &|gates| timer.price(6, ALL_FITTED, &drawn(gates)));
     line("invert, drawn gates", &|gates| timer.invert(6, &drawn(gates)));
     line("read_file, drawn gates", &|gates| timer.read_file(&file_of(6, &drawn(gates), b"")));
     line("listing, drawn gates", &|gates| timer.listing(6, &drawn(gates)));

@@ -9,6 +9,10 @@ use second::names::write_names;
 use second::pattern::Lines;
 use second::synthesis::synthesize;
 
+/// The sets of D, E and N, and of D.
+pub const ALL_FITTED: u8 = 7;
+pub const D_FITTED: u8 = 1;
+
 pub fn patterns(lines: u8) -> usize {
     3usize.pow(lines as u32)
 }
@@ -147,7 +151,7 @@ mod tests {
             let [one, other] = alike(lines, MOST_GATES);
             assert_eq!(one.len(), RECORD * MOST_GATES);
             assert_eq!(other.len(), RECORD * MOST_GATES);
-            assert!(choose(lines, 2, &one, &other).is_ok());
+            assert!(choose(lines, 2, ALL_FITTED, &one, &other).is_ok());
             let mut pairs = one.chunks(RECORD).zip(other.chunks(RECORD));
             assert!(pairs.all(|(one, other)| one != other));
         }

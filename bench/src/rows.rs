@@ -7,7 +7,7 @@ use second::hard::{hard, hardest};
 
 use crate::inputs::{
     alike, all_tables, bare_cascade, counter, drawn_cascade, drawn_tables, file_of, identity,
-    list_of, patterns, synthesized, there_and_back, MOST_GATES,
+    list_of, patterns, synthesized, there_and_back, ALL_FITTED, D_FITTED, MOST_GATES,
 };
 use crate::report::{Report, What};
 
@@ -75,8 +75,12 @@ fn cascades(report: &mut Report) {
     report.line(on("tabulate, a synthesized cascade", found), |timer| timer.tabulate(6, found));
     report.line(on("tabulate, gates with no controls", bare), |timer| timer.tabulate(6, bare));
     // The base price is worked out anew for each gate, as document 01 says.
-    let price = What { aim: None, ..on("price, drawn gates", drawn) };
-    report.line(price, |timer| timer.price(6, drawn));
+    for (call, fitted) in
+        [("price, drawn gates", ALL_FITTED), ("price, drawn gates, D alone fitted", D_FITTED)]
+    {
+        let price = What { aim: None, ..on(call, drawn) };
+        report.line(price, |timer| timer.price(6, fitted, drawn));
+    }
     report.line(on("invert, drawn gates", drawn), |timer| timer.invert(6, drawn));
     report.line(on("choose, two with the same table", &pair[0]), |timer| timer.choose(6, pair));
 }

@@ -92,6 +92,7 @@ impl Memory {
         Given {
             lines: input.lines,
             value: input.value,
+            fitted: input.fitted,
             pattern: input.pattern,
             place: input.place,
             end: input.end,

@@ -91,7 +91,7 @@ fn usage() -> ExitCode {
 }
 
 /// The last number on the refusal card.
-const LAST_REFUSAL: usize = 12;
+const LAST_REFUSAL: usize = 13;
 
 /// How many inputs each call had: accepted, then by refusal.
 #[derive(Default)]
@@ -147,12 +147,13 @@ impl Tally {
 
 /// An input in words. Long bytes are cut: the input can be made again.
 fn described(input: &Input) -> String {
-    let Input { lines, value, pattern, place, end, .. } = *input;
+    let Input { lines, value, fitted, pattern, place, end, .. } = *input;
     let Input { entries, room, note_room, null_if_empty, .. } = *input;
     let table = &input.table;
     let most = table.len().min(81);
     format!(
-        "{}\n  lines {lines}, value {value}, pattern {pattern}, place {place}, end {end}\n  \
+        "{}\n  lines {lines}, value {value}, fitted {fitted}, pattern {pattern}, \
+         place {place}, end {end}\n  \
          table of {}: {:?}\n  bytes {}\n  more bytes {}\n  \
          rooms: {entries} entries, {room} bytes, {note_room} bytes for a note; empty as {}",
         input.call.name(),

@@ -50,11 +50,18 @@ mod c {
             room: *mut u8,
             room_len: usize,
         ) -> Answer;
-        pub fn tiles_price(lines: u8, value: u8, cascade: *const u8, len: usize) -> Answer;
+        pub fn tiles_price(
+            lines: u8,
+            value: u8,
+            fitted: u8,
+            cascade: *const u8,
+            len: usize,
+        ) -> Answer;
         pub fn tiles_tidy(lines: u8, cascade: *mut u8, len: usize) -> Answer;
         pub fn tiles_choose(
             lines: u8,
             value: u8,
+            fitted: u8,
             a: *const u8,
             a_len: usize,
             b: *const u8,
@@ -164,8 +171,8 @@ impl Library {
         unsafe { c::tiles_invert(lines, self.given(cascade), cascade.len(), at, len) }.told()
     }
 
-    pub fn price(self, lines: u8, value: u8, cascade: &[u8]) -> Told {
-        unsafe { c::tiles_price(lines, value, self.given(cascade), cascade.len()) }.told()
+    pub fn price(self, lines: u8, value: u8, fitted: u8, cascade: &[u8]) -> Told {
+        unsafe { c::tiles_price(lines, value, fitted, self.given(cascade), cascade.len()) }.told()
     }
 
     pub fn tidy(self, lines: u8, cascade: &mut [u8]) -> Told {
@@ -173,9 +180,9 @@ impl Library {
         unsafe { c::tiles_tidy(lines, at, len) }.told()
     }
 
-    pub fn choose(self, lines: u8, value: u8, first: &[u8], second: &[u8]) -> Told {
+    pub fn choose(self, lines: u8, value: u8, fitted: u8, first: &[u8], second: &[u8]) -> Told {
         let (a, b) = (self.given(first), self.given(second));
-        unsafe { c::tiles_choose(lines, value, a, first.len(), b, second.len()) }.told()
+        unsafe { c::tiles_choose(lines, value, fitted, a, first.len(), b, second.len()) }.told()
     }
 
     pub fn write_file(self, lines: u8, cascade: &[u8], note: &[u8], room: &mut [u8]) -> Told {
@@ -222,8 +229,8 @@ impl Library {
 
     /// Calls, and tells the answer in numbers.
     pub fn answer(self, call: Call, given: Given) -> Told {
-        let Given { lines, value, pattern, place, end, table, bytes, more_bytes, .. } = given;
-        let Given { entries, room, note_room, .. } = given;
+        let Given { lines, value, fitted, pattern, place, end, .. } = given;
+        let Given { table, bytes, more_bytes, entries, room, note_room, .. } = given;
         match call {
             Call::CheckTable => self.check_table(lines, table),
             Call::Synthesize => self.synthesize(lines, table, room),
@@ -231,9 +238,9 @@ impl Library {
             Call::Run => self.run(lines, bytes, pattern),
             Call::Tabulate => self.tabulate(lines, bytes, entries),
             Call::Invert => self.invert(lines, bytes, room),
-            Call::Price => self.price(lines, value, bytes),
+            Call::Price => self.price(lines, value, fitted, bytes),
             Call::Tidy => self.tidy(lines, bytes),
-            Call::Choose => self.choose(lines, value, bytes, more_bytes),
+            Call::Choose => self.choose(lines, value, fitted, bytes, more_bytes),
             Call::WriteFile => self.write_file(lines, bytes, more_bytes, room),
             Call::ReadFile => self.read_file(bytes, room, note_room),
             Call::Opening => self.opening(bytes),

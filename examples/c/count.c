@@ -9,7 +9,7 @@
 #include <stdio.h>
 #include <tiles.h>
 
-enum { LINES = 6, VALUE = 2 };
+enum { LINES = 6, VALUE = 2, FITTED = 7 };
 
 static uint16_t table[TILES_MOST_ENTRIES];
 static uint8_t cascade[TILES_MOST_FOUND * TILES_RECORD];
@@ -47,7 +47,7 @@ int main(void)
     answer = tiles_synthesize(LINES, table, TILES_MOST_ENTRIES, cascade, sizeof cascade);
     found = accepted("synthesize", answer).first;
     bytes = (size_t)found * TILES_RECORD;
-    cost = accepted("price", tiles_price(LINES, VALUE, cascade, bytes)).first;
+    cost = accepted("price", tiles_price(LINES, VALUE, FITTED, cascade, bytes)).first;
     printf("found:  %u gates, cost %u\n", (unsigned)found, (unsigned)cost);
 
     /* Tidying may find nothing, as here. What it frees is cut off. */
@@ -56,7 +56,7 @@ int main(void)
     found = answer.first;
     bytes = (size_t)found * TILES_RECORD;
     printf("tidied: %u steps", (unsigned)answer.second);
-    answer = accepted("price", tiles_price(LINES, VALUE, cascade, bytes));
+    answer = accepted("price", tiles_price(LINES, VALUE, FITTED, cascade, bytes));
     expect("tidying makes nothing dearer", answer.first <= cost);
     printf(", %u gates, cost %u\n", (unsigned)found, (unsigned)answer.first);
 

@@ -61,4 +61,8 @@ impl Refusal {
     pub(crate) const fn not_a_line(line: usize) -> Self {
         Refusal { number: 12, place: line }
     }
+
+    pub(crate) const fn not_a_fitted_set() -> Self {
+        Refusal { number: 13, place: 0 }
+    }
 }

@@ -45,6 +45,7 @@ pub enum Call {
 pub struct Given<'a> {
     pub lines: u8,
     pub value: u8,
+    pub fitted: u8,
     pub pattern: u16,
     pub place: usize,
     pub end: usize,
@@ -131,8 +132,8 @@ impl Call {
             Call::CheckCascade | Call::Tidy => &[1, 6, 7],
             Call::Run => &[1, 6, 7, 8],
             Call::Tabulate | Call::Invert | Call::Listing | Call::WriteNames => &[1, 6, 7, 5],
-            Call::Price => &[1, 10, 6, 7],
-            Call::Choose => &[1, 10, 6, 7, 11],
+            Call::Price => &[1, 10, 13, 6, 7],
+            Call::Choose => &[1, 10, 13, 6, 7, 11],
             Call::WriteFile => &[1, 6, 7, 9, 5],
             Call::ReadFile => &[9, 1, 6, 7, 5],
             Call::Opening => &[9, 1, 6, 7],
@@ -144,8 +145,8 @@ impl Call {
 
     /// Calls, and tells the answer in numbers.
     pub fn answer(self, given: Given) -> Told {
-        let Given { lines, value, pattern, place, end, table, bytes, more_bytes, .. } = given;
-        let Given { entries, room, note_room, .. } = given;
+        let Given { lines, value, fitted, pattern, place, end, .. } = given;
+        let Given { table, bytes, more_bytes, entries, room, note_room, .. } = given;
         match self {
             Call::CheckTable => told(check_table(lines, table), |()| [0; 3]),
             Call::Synthesize => told(synthesize(lines, table, room), one),
@@ -153,10 +154,10 @@ impl Call {
             Call::Run => told(run(lines, bytes, pattern), |pattern| one(pattern as usize)),
             Call::Tabulate => told(tabulate(lines, bytes, entries), one),
             Call::Invert => told(invert(lines, bytes, room), one),
-            Call::Price => told(price(lines, value, bytes), |cost| one(cost as usize)),
+            Call::Price => told(price(lines, value, fitted, bytes), |cost| one(cost as usize)),
             Call::Tidy => told(tidy(lines, bytes), |tidied| [tidied.gates, tidied.steps, 0]),
             Call::Choose => {
-                told(choose(lines, value, bytes, more_bytes), |which| one(which as usize))
+                told(choose(lines, value, fitted, bytes, more_bytes), |which| one(which as usize))
             }
             Call::WriteFile => told(write_file(lines, bytes, more_bytes, room), one),
             Call::ReadFile => told(read_file(bytes, room, note_room), |found| {

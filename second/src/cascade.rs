@@ -1,7 +1,7 @@
 //! Cascades: checking, running, inverting and pricing them.
 
 use crate::answer::{Answer, Refusal};
-use crate::gate::{faults, Gate, CONTROLS, NO_CONTROL, RECORD};
+use crate::gate::{faults, Gate, Operator, CONTROLS, NO_CONTROL, RECORD};
 use crate::pattern::{Digits, Lines, MOST_LINES};
 
 /// The most gates of a cascade.
@@ -41,11 +41,20 @@ pub fn invert(lines: u8, cascade: &[u8], room: &mut [u8]) -> Answer<usize> {
     Ok(cascade.len())
 }
 
-/// The quantum cost under a global control value. Refusals 1, 10, 6, 7.
-pub fn price(lines: u8, value: u8, cascade: &[u8]) -> Answer<u32> {
-    let lines = Lines::check(lines)?;
-    let value = GlobalValue::check(value)?;
-    Ok(Cascade::check(lines, cascade)?.cost(value))
+/// The quantum cost on a board with such a global control value and such operators
+/// fitted. Refusals 1, 10, 13, 6, 7.
+pub fn price(lines: u8, value: u8, fitted: u8, cascade: &[u8]) -> Answer<u32> {
+    let (lines, value, fitted) = check_board(lines, value, fitted)?;
+    Ok(Cascade::check(lines, cascade)?.cost(value, fitted))
+}
+
+/// What is told of a board. Refusals 1, 10, 13.
+pub(crate) fn check_board(
+    lines: u8,
+    value: u8,
+    fitted: u8,
+) -> Answer<(Lines, GlobalValue, Fitted)> {
+    Ok((Lines::check(lines)?, GlobalValue::check(value)?, Fitted::check(fitted)?))
 }
 
 /// A checked cascade on a known number of lines.
@@ -91,8 +100,10 @@ impl<'a> Cascade<'a> {
         self.records.iter().map(|&record| Gate::of_checked(record))
     }
 
-    pub fn cost(self, value: GlobalValue) -> u32 {
-        self.gates().map(|gate| gate_cost(gate, value)).sum()
+    pub fn cost(self, value: GlobalValue, fitted: Fitted) -> u32 {
+        // Two sums, since either loop is the faster without the other.
+        self.gates().map(|gate| gate_cost(gate, value)).sum::<u32>()
+            + self.gates().map(|gate| fitted.more_for(gate)).sum::<u32>()
     }
 }
 
@@ -114,6 +125,34 @@ impl GlobalValue {
     }
 }
 
+/// The swaps that a board has, told by those that it lacks: a bit for each operator's
+/// number. C1 and C2 are on every board, and at least one of D, E and N.
+#[derive(Clone, Copy, Debug, PartialEq, Eq)]
+pub struct Fitted {
+    lacking: u8,
+}
+
+impl Fitted {
+    /// The set for which listings state the cost.
+    pub const ALL: Fitted = Fitted { lacking: 0 };
+
+    /// A sum of 1 for D, 2 for E and 4 for N. Refusal 13.
+    pub fn check(set: u8) -> Answer<Fitted> {
+        if !(1..=7).contains(&set) {
+            return Err(Refusal::not_a_fitted_set());
+        }
+        let swaps = [(1, Operator::D), (2, Operator::E), (4, Operator::N)];
+        let lacking = swaps.into_iter().filter(|(number, _)| set & number == 0);
+        Ok(Fitted { lacking: lacking.map(|(_, operator)| 1 << operator.number()).sum() })
+    }
+
+    /// What a gate costs more: 1 if its operator has to be made of two others.
+    fn more_for(self, gate: Gate) -> u32 {
+        (self.lacking >> gate.operator_number() & 1) as u32
+    }
+}
+
+/// The cost where every operator is fitted.
 fn gate_cost(gate: Gate, value: GlobalValue) -> u32 {
     COST[value.0 as usize][gate.packed_controls() as usize] as u32
 }

@@ -1,8 +1,8 @@
 //! The cheaper of two.
 
 use crate::answer::{Answer, Refusal};
-use crate::cascade::{Cascade, GlobalValue};
-use crate::pattern::{Lines, MOST_PATTERNS};
+use crate::cascade::{check_board, Cascade};
+use crate::pattern::MOST_PATTERNS;
 use crate::tabulating::write_table;
 
 /// The answers of [`choose`].
@@ -12,25 +12,30 @@ pub const SECOND: u8 = 2;
 /// Hands back that lent cascade which costs less, then the one with fewer gates,
 /// then the first. A refusal hands back the empty part at the start of the first;
 /// [`choose`] tells which refusal.
-pub fn cheaper<'a>(lines: u8, value: u8, first: &'a [u8], second: &'a [u8]) -> &'a [u8] {
-    match choose(lines, value, first, second) {
+pub fn cheaper<'a>(
+    lines: u8,
+    value: u8,
+    fitted: u8,
+    first: &'a [u8],
+    second: &'a [u8],
+) -> &'a [u8] {
+    match choose(lines, value, fitted, first, second) {
         Ok(SECOND) => second,
         Ok(_) => first,
         Err(_) => &first[..0],
     }
 }
 
-/// Which of the two [`cheaper`] hands back: 1 or 2. Refusals 1, 10, then 6 and 7
+/// Which of the two [`cheaper`] hands back: 1 or 2. Refusals 1, 10, 13, then 6 and 7
 /// of the first, 6 and 7 of the second, 11.
-pub fn choose(lines: u8, value: u8, first: &[u8], second: &[u8]) -> Answer<u8> {
-    let lines = Lines::check(lines)?;
-    let value = GlobalValue::check(value)?;
+pub fn choose(lines: u8, value: u8, fitted: u8, first: &[u8], second: &[u8]) -> Answer<u8> {
+    let (lines, value, fitted) = check_board(lines, value, fitted)?;
     let first = Cascade::check(lines, first)?;
     let second = Cascade::check(lines, second)?;
     if let Some(input) = first_difference(first, second) {
         return Err(Refusal::different_tables(input));
     }
-    let worth = |cascade: Cascade| (cascade.cost(value), cascade.len());
+    let worth = |cascade: Cascade| (cascade.cost(value, fitted), cascade.len());
     Ok(if worth(second) < worth(first) { SECOND } else { FIRST })
 }
 

@@ -25,6 +25,10 @@ const KINDS: usize = 8;
 const LONG_DRAWN: [usize; 4] = [10, 10, 6, 6];
 const PASSING_KINDS: usize = 40;
 
+/// For which boards costs are summed up: the global value and the fitted set. All three
+/// operators at each value, then D, E and N alone.
+const BOARDS: [(u8, u8); 6] = [(0, 7), (1, 7), (2, 7), (2, 1), (2, 2), (2, 4)];
+
 /// Prints all families, each in its lines.
 pub fn report() -> Answer<String> {
     let mut text = all_two_line_tables()?.text("tables", 2);
@@ -99,9 +103,9 @@ struct Sums {
     entries: usize,
     count: u64,
     gates: u64,
-    cost: [u64; 3],
+    cost: [u64; BOARDS.len()],
     tidied_gates: u64,
-    tidied_cost: [u64; 3],
+    tidied_cost: [u64; BOARDS.len()],
     steps: u64,
     /// How many cascades tidying changed.
     changed: u64,
@@ -124,9 +128,9 @@ impl Sums {
             entries,
             count: 0,
             gates: 0,
-            cost: [0; 3],
+            cost: [0; BOARDS.len()],
             tidied_gates: 0,
-            tidied_cost: [0; 3],
+            tidied_cost: [0; BOARDS.len()],
             steps: 0,
             changed: 0,
             most: 0,
@@ -168,9 +172,9 @@ impl Sums {
         self.left = self.left.and(&left);
         self.kept = self.kept.and_entries(self.table_of(&left, &mut [0; MOST_PATTERNS])?);
 
-        for value in 0..3 {
-            self.cost[value] += price(self.lines, value as u8, cascade)? as u64;
-            self.tidied_cost[value] += price(self.lines, value as u8, &left)? as u64;
+        for (board, (value, fitted)) in BOARDS.into_iter().enumerate() {
+            self.cost[board] += price(self.lines, value, fitted, cascade)? as u64;
+            self.tidied_cost[board] += price(self.lines, value, fitted, &left)? as u64;
         }
         Ok(())
     }
@@ -191,10 +195,16 @@ impl Sums {
             ("cost at 0", self.cost[0]),
             ("cost at 1", self.cost[1]),
             ("cost at 2", self.cost[2]),
+            ("cost with D", self.cost[3]),
+            ("cost with E", self.cost[4]),
+            ("cost with N", self.cost[5]),
             ("tidied gates", self.tidied_gates),
             ("tidied cost at 0", self.tidied_cost[0]),
             ("tidied cost at 1", self.tidied_cost[1]),
             ("tidied cost at 2", self.tidied_cost[2]),
+            ("tidied cost with D", self.tidied_cost[3]),
+            ("tidied cost with E", self.tidied_cost[4]),
+            ("tidied cost with N", self.tidied_cost[5]),
             ("steps", self.steps),
             ("changed", self.changed),
             ("most gates", self.most),

@@ -129,6 +129,12 @@ impl Gate {
         }
     }
 
+    /// The operator's number, to look it up in a set.
+    #[inline]
+    pub(crate) fn operator_number(self) -> u8 {
+        self.0 as u8 & 7
+    }
+
     #[inline]
     pub fn target(self) -> usize {
         (self.0 >> 8) as u8 as usize

@@ -2,7 +2,7 @@
 //!
 //! This is the second of two implementations that share nothing but their
 //! documents. One module stands for each section of document 01, and behind these one
-//! for order 1 of document 02:
+//! for order 1 of document 02. Order 2, on boards, is part of [`cascade`]:
 //!
 //! | module        | section                                                        |
 //! |---------------|----------------------------------------------------------------|
@@ -10,7 +10,7 @@
 //! | [`pattern`]   | Patterns, tables, gates: line counts, patterns and their digits |
 //! | [`table`]     | Patterns, tables, gates: what table is a permutation           |
 //! | [`gate`]      | Patterns, tables, gates: operators and gate records            |
-//! | [`cascade`]   | check, run, invert; The price of a gate                        |
+//! | [`cascade`]   | check, run, invert; The price of a gate, on any board          |
 //! | [`tabulating`] | what a cascade computes, as a table                           |
 //! | [`synthesis`] | From table to cascade                                          |
 //! | [`tidying`]   | Tidying                                                        |

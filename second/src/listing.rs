@@ -1,7 +1,7 @@
 //! The printed text of a cascade.
 
 use crate::answer::{Answer, Refusal};
-use crate::cascade::{Cascade, GlobalValue};
+use crate::cascade::{Cascade, Fitted, GlobalValue};
 use crate::gate::{Gate, Operator, NO_CONTROL};
 use crate::pattern::{Lines, MOST_LINES};
 
@@ -22,7 +22,7 @@ pub(crate) struct Listing<'a> {
 impl<'a> Listing<'a> {
     pub(crate) fn of(cascade: Cascade<'a>) -> Self {
         let (lines, gates) = (cascade.lines().count(), cascade.len());
-        let cost = cascade.cost(GlobalValue::TWO);
+        let cost = cascade.cost(GlobalValue::TWO, Fitted::ALL);
         let head = format!("lines {lines} gates {gates} cost {cost}\n");
         Listing { head, starts: &STARTS, cascade }
     }

@@ -1,21 +1,21 @@
 //! Test cases in a form that a program without a heap can read, and the lines
 //! that they print.
 //!
-//! The cases start with their number, in four bytes. A case is 17 words of four
+//! The cases start with their number, in four bytes. A case is 18 words of four
 //! bytes, then the bytes stored for the bytes given, then those stored for the
 //! second bytes given. Every number has its low byte first.
 //!
 //! | words  | hold                                                              |
 //! |--------|-------------------------------------------------------------------|
 //! | 0      | the call's number                                                 |
-//! | 1 to 3 | lines, value, pattern                                             |
-//! | 4, 5   | how often the record stands in the bytes given, in the second ones |
-//! | 6, 7   | how many bytes are stored for the bytes given, for the second ones |
-//! | 8, 9   | the length of the room, of the note's room                        |
-//! | 10     | the byte that fills both rooms                                    |
-//! | 11, 12 | place, its low word first                                         |
-//! | 13, 14 | end, its low word first                                           |
-//! | 15, 16 | a record                                                          |
+//! | 1 to 4 | lines, value, fitted, pattern                                     |
+//! | 5, 6   | how often the record stands in the bytes given, in the second ones |
+//! | 7, 8   | how many bytes are stored for the bytes given, for the second ones |
+//! | 9, 10  | the length of the room, of the note's room                        |
+//! | 11     | the byte that fills both rooms                                    |
+//! | 12, 13 | place, its low word first                                         |
+//! | 14, 15 | end, its low word first                                           |
+//! | 16, 17 | a record                                                          |
 //!
 //! Bytes given are the record, so often as said, and behind it the bytes stored.
 //! A call that takes a table takes it from the bytes given, two for each entry;
@@ -42,7 +42,7 @@ pub const MOST_ROOM: usize = 262_144;
 /// The most bytes of a room for a note.
 pub const MOST_NOTE_ROOM: usize = 2_048;
 
-const WORDS: usize = 17;
+const WORDS: usize = 18;
 
 /// FNV-1a with 32 bits.
 #[derive(Clone, Copy, Debug, PartialEq, Eq)]
@@ -85,6 +85,7 @@ pub struct Case {
     pub call: Call,
     pub lines: u8,
     pub value: u8,
+    pub fitted: u8,
     pub pattern: u16,
     /// How often the record stands at the start of the bytes given.
     pub times: usize,
@@ -107,6 +108,7 @@ impl Case {
             call,
             lines: 0,
             value: 0,
+            fitted: 0,
             pattern: 0,
             times: 0,
             more_times: 0,
@@ -160,6 +162,7 @@ impl Case {
             self.call.number(),
             self.lines as u32,
             self.value as u32,
+            self.fitted as u32,
             self.pattern as u32,
             self.times as u32,
             self.more_times as u32,
@@ -185,12 +188,14 @@ impl Case {
         for word in &mut words {
             *word = u32::from_le_bytes(*take(file, 4)?.first_chunk()?);
         }
-        let [call, lines, value, pattern, times, more_times, stored, more_stored, ..] = words;
+        let [call, lines, value, fitted, pattern, times, more_times, stored, more_stored, ..] =
+            words;
         let [.., room, note_room, fill, place, place_high, end, end_high, low, high] = words;
         let case = Case {
             call: Call::from_number(call)?,
             lines: lines.try_into().ok()?,
             value: value.try_into().ok()?,
+            fitted: fitted.try_into().ok()?,
             pattern: pattern.try_into().ok()?,
             times: Some(times as usize).filter(|&times| times <= MOST_GIVEN / 8)?,
             more_times: Some(more_times as usize).filter(|&times| times <= MOST_GIVEN / 8)?,
@@ -217,6 +222,7 @@ impl Case {
         let told = self.call.answer(Given {
             lines: self.lines,
             value: self.value,
+            fitted: self.fitted,
             pattern: self.pattern,
             place: self.place as usize,
             end: self.end as usize,
@@ -229,7 +235,9 @@ impl Case {
         });
 
         let room = match self.call {
-            Call::Choose => Digest::of(cheaper(self.lines, self.value, &bytes, &more_bytes)),
+            Call::Choose => {
+                Digest::of(cheaper(self.lines, self.value, self.fitted, &bytes, &more_bytes))
+            }
             Call::Tabulate => Digest::of_entries(&entries),
             _ => Digest::of(&room),
         };

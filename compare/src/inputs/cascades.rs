@@ -153,3 +153,26 @@ pub fn partner(numbers: &mut Numbers, lines: usize, bytes: &[u8]) -> Vec<u8> {
     }
     other
 }
+
+/// The cascade with two gates for each swap, a C1 or a C2 and then another swap. Which of
+/// two such costs less is for the fitted set to say.
+pub fn in_pairs(numbers: &mut Numbers, bytes: &[u8]) -> Vec<u8> {
+    let mut pairs = vec![];
+    for record in bytes.chunks(8) {
+        // For N, D and E: the swap behind a C1, and the one behind a C2.
+        let operators = match (record[0], numbers.below(2)) {
+            (3, 0) => vec![1, 4],
+            (3, _) => vec![2, 5],
+            (4, 0) => vec![1, 5],
+            (4, _) => vec![2, 3],
+            (5, 0) => vec![1, 3],
+            (5, _) => vec![2, 4],
+            (other, _) => vec![other],
+        };
+        for operator in operators {
+            pairs.push(operator);
+            pairs.extend(&record[1..]);
+        }
+    }
+    pairs
+}

@@ -16,7 +16,7 @@ use second::pattern::Lines;
 use second::sheet;
 use second::vectors::Case;
 
-use cascades::{hard_cascade, partner, some_cascade};
+use cascades::{hard_cascade, in_pairs, partner, some_cascade};
 use files::{some_end, some_file, some_place};
 use lists::some_list;
 use tables::some_table;
@@ -28,6 +28,7 @@ pub struct Input {
     pub call: Call,
     pub lines: u8,
     pub value: u8,
+    pub fitted: u8,
     pub pattern: u16,
     pub place: usize,
     pub end: usize,
@@ -53,6 +54,7 @@ impl Input {
             call,
             lines: 0,
             value: 0,
+            fitted: 0,
             pattern: 0,
             place: 0,
             end: 0,
@@ -72,6 +74,7 @@ impl Input {
         let mut input = Input {
             lines: case.lines,
             value: case.value,
+            fitted: case.fitted,
             pattern: case.pattern,
             place: case.place as usize,
             end: case.end as usize,
@@ -126,10 +129,19 @@ impl Input {
             Call::Run => self.pattern = some_pattern(numbers, lines),
             Call::Tabulate => self.entries = around(numbers, 3usize.pow(lines as u32), 1),
             Call::Invert => self.room = around(numbers, records, 8),
-            Call::Price => self.value = some_value(numbers),
+            Call::Price => {
+                self.value = some_value(numbers);
+                self.fitted = some_set(numbers);
+            }
             Call::Choose => {
                 self.value = some_value(numbers);
-                self.more_bytes = partner(numbers, lines, &self.bytes);
+                self.fitted = some_set(numbers);
+                if numbers.one_in(6) {
+                    self.more_bytes = in_pairs(numbers, &self.bytes);
+                    self.bytes = in_pairs(numbers, &self.bytes);
+                } else {
+                    self.more_bytes = partner(numbers, lines, &self.bytes);
+                }
                 if numbers.one_in(2) {
                     std::mem::swap(&mut self.bytes, &mut self.more_bytes);
                 }
@@ -259,6 +271,16 @@ fn some_value(numbers: &mut Numbers) -> u8 {
         0 => 3,
         1 => numbers.pick(&[2, 3, 4, 255]),
         _ => numbers.below(3) as u8,
+    }
+}
+
+/// A fitted set, mostly a good one.
+fn some_set(numbers: &mut Numbers) -> u8 {
+    match numbers.below(24) {
+        0 => 0,
+        1 => numbers.pick(&[0, 1, 7, 8, 255]),
+        2 => numbers.byte(),
+        _ => 1 + numbers.below(7) as u8,
     }
 }
 

@@ -3,15 +3,16 @@
 use mathlib.Core.Path.{_≡_, _∙_}
 use mathlib.Core.List.{List, [], _∷_}
 use Prim.Native.Nat.{ℕ}
-use lib.Dec.{ltb}
-use Rattle.card.specs.Card.{Answer, Answer.accepted, Answer.refused, refusing, onLines}
-use Rattle.card.proofs.Cards.{refusing-no, refusing-passed}
-use Rattle.card.proofs.Fronts.{front, front-of, front-lines, front-refused}
+use Rattle.card.specs.Card.{Answer, Answer.accepted, Answer.refused, onLines}
+use Rattle.card.proofs.Cards.{good-lines}
+use Rattle.card.proofs.Fronts.{front-of, front-refused}
 use Rattle.gates.specs.Records.{isRecord}
 use Rattle.cascades.specs.Cascades.{records, gatesOf}
 use Rattle.cascades.specs.Inner.Checked.{Whole}
+use Rattle.cascades.specs.Boards.{onBoard}
 use Rattle.cascades.specs.Prices.{cascadePrice}
 use Rattle.cascades.specs.Answers.{onCascade, checkAnswer, priceAnswer}
+use Rattle.cascades.proofs.Boards.{GoodBoard, front-board, board-accepted}
 use Rattle.cascades.proofs.Answers.{records-passed, front-records, behind-accepted, behind-refused}
 
 module _ (n : ℕ) (b : List ℕ) where
@@ -34,24 +35,22 @@ module _ (n : ℕ) (b : List ℕ) where
 
   -- ---- pricing
 
-  module _ (v : ℕ) where
-    -- a price: the value is let through, the bytes are gates
+  module _ (v s : ℕ) where
+    -- a price: the board is a good one, the bytes are gates
     pub record HasPrice (vs : List ℕ) : Type 0 where
-      pub value-passed : (x : Answer) → refusing (ltb 2 v) 10 0 x ≡ x
+      pub board : GoodBoard n v s
       pub whole : Whole n b (records b)
-      pub is : vs ≡ cascadePrice v (gatesOf b) ∷ []
+      pub is : vs ≡ cascadePrice v s (gatesOf b) ∷ []
 
-    pub price-accepted : (vs : List ℕ) → priceAnswer n v b ≡ accepted vs → HasPrice vs
-    unfolding priceAnswer onLines
+    pub price-accepted : (vs : List ℕ) → priceAnswer n v s b ≡ accepted vs → HasPrice vs
+    unfolding priceAnswer
     price-accepted vs e =
-        let lines = refusing-passed _ 1 0 _ vs e in
-        let value = refusing-passed _ 10 0 _ vs (lines .1) in
-        let behind = behind-accepted isRecord n b _ vs (refusing-no _ 1 0 _ (lines .0) ∙ value .1) in
-        record { value-passed = λ x. refusing-no _ 10 0 x (value .0); whole = behind .0; is = cc }
+        let board = board-accepted n v s _ vs e in
+        let behind = behind-accepted isRecord n b _ vs (good-lines n _ (board .0 .lines) ∙ board .1) in
+        record { board = board .0; whole = behind .0; is = cc (behind .1) }
 
-    -- a refusal is that of every call behind 1, 10, 6 and 7
-    pub price-refused : (k p : ℕ) (x : Answer) → priceAnswer n v b ≡ refused k p → onLines n (refusing (ltb 2 v) 10 0 (onCascade n b x)) ≡ refused k p
+    -- a refusal is that of every call behind 1, 10, 13, 6 and 7
+    pub price-refused : (k p : ℕ) (x : Answer) → priceAnswer n v s b ≡ refused k p → onBoard n v s (onCascade n b x) ≡ refused k p
     unfolding priceAnswer
     price-refused k p x e =
-        front-refused (λ y. onLines n (refusing (ltb 2 v) 10 0 (onCascade n b y)))
-        (front-of (onLines n) _ (front-lines n) (front-of (refusing (ltb 2 v) 10 0) _ (front (ltb 2 v) 10 0) (front-records isRecord n b))) _ k p e x
+        front-refused (λ y. onBoard n v s (onCascade n b y)) (front-of (onBoard n v s) (onCascade n b) (front-board n v s) (front-records isRecord n b)) _ k p e x

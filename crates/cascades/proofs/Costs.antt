@@ -1,5 +1,5 @@
--- Prices: the base price by its cases, how large a price can be, the price of an appended list. `cost-fits` bounds the cost of any cascade.
--- Assumes nothing.
+-- Prices: the base price by its cases, how large a price can be, the price of an appended list. `cost-fits` bounds the cost of any cascade,
+-- `all-fitted` says which price is document 01's. Assumes nothing.
 use mathlib.Core.Path.{_≡_, refl, ap}
 use mathlib.Core.Logic.{_⊎_, ⊎-elim}
 use mathlib.Core.Bool.{Bool, true, false, cond, _||_}
@@ -14,11 +14,14 @@ use Rattle.ranges.specs.Lists.{Each, total}
 use Rattle.ranges.proofs.Sums.{sum-le-but, sum-ext}
 use Rattle.ranges.proofs.Spans.{span-more, span-ends}
 use Rattle.ranges.proofs.Lists.{each-imp, total-append, total-le}
+use Rattle.ranges.proofs.Parts.{total-ext}
 use Rattle.gates.specs.declared.Gate.{Gate}
 use Rattle.gates.specs.Gates.{control, IsGate}
 use Rattle.cascades.specs.Cascades.{gateIn, Cascade}
-use Rattle.cascades.specs.Prices.{base, controlCount, others, gatePrice, cascadePrice}
-use Rattle.cascades.specs.Inner.Pricing.{withControls}
+use Rattle.cascades.specs.Boards.{isFitted}
+use Rattle.cascades.specs.Prices.{base, controlCount, others, plainPrice, gatePrice, cascadePrice}
+use Rattle.cascades.specs.Inner.Pricing.{gateWith}
+use Rattle.cascades.proofs.Boards.{fitted-all}
 
 pub base-small : (k : ℕ) → k < 2 → base k ≡ 1
 unfolding base
@@ -77,37 +80,52 @@ others-le n v g six ok =
     let s = sum-le-but (λ k. cond (eqb (control g k) 3 || eqb (control g k) v) 0 1) 1 0 6 (g .target) (λ k. one-at-most (eqb (control g k) 3 || eqb (control g k) v)) (omega arith) (omega (arith, ok .on-line)) none in
     omega arith
 
--- the price does not depend on operator and target
-pub price-of : (v : ℕ) (g : Gate) → gatePrice v (withControls (g .controls)) ≡ gatePrice v g
-unfolding gatePrice controlCount others
-price-of v g = refl
+-- what its controls cost does not depend on its operator
+pub plain-with : (v o c : ℕ) → base (others 3 (gateWith 0 c)) + 2 * others v (gateWith 0 c) ≡ plainPrice v (gateWith o c)
+plain-with v o c = rw (count-others (gateWith 0 c)) same
+  where
+    same : base (controlCount (gateWith 0 c)) + 2 * others v (gateWith 0 c) ≡ plainPrice v (gateWith o c)
+    same = unfold plainPrice controlCount others in refl
+
+-- and the price not on its target
+pub price-of : (v s : ℕ) (g : Gate) → gatePrice v s (gateWith (g .operator) (g .controls)) ≡ gatePrice v s g
+unfolding gatePrice plainPrice controlCount others
+price-of v s g = refl
 
 -- a cascade's price is the sum over its parts
-pub price-append : (v : ℕ) (gs hs : List Gate) → cascadePrice v (gs ++ hs) ≡ cascadePrice v gs + cascadePrice v hs
+pub price-append : (v s : ℕ) (gs hs : List Gate) → cascadePrice v s (gs ++ hs) ≡ cascadePrice v s gs + cascadePrice v s hs
 unfolding cascadePrice
-price-append v gs hs = total-append (gatePrice v) gs hs
+price-append v s gs hs = total-append (gatePrice v s) gs hs
 
 -- one turn of a loop that adds prices up, and its end
-pub price-more : (v : ℕ) (b : List ℕ) (m i cost : ℕ) → i < m
-    → cost + gatePrice v (gateIn b i) + cascadePrice v (span (gateIn b) (i + 1) (m - (i + 1))) ≡ cost + cascadePrice v (span (gateIn b) i (m - i))
+pub price-more : (v s : ℕ) (b : List ℕ) (m i cost : ℕ) → i < m
+    → cost + gatePrice v s (gateIn b i) + cascadePrice v s (span (gateIn b) (i + 1) (m - (i + 1))) ≡ cost + cascadePrice v s (span (gateIn b) i (m - i))
 unfolding cascadePrice total
-price-more v b m i cost lt = rw (span-more (gateIn b) m i lt, add-assoc)
+price-more v s b m i cost lt = rw (span-more (gateIn b) m i lt, add-assoc)
 
-pub price-ends : (v : ℕ) (b : List ℕ) (m i cost : ℕ) → m ≤ i → cost + cascadePrice v (span (gateIn b) i (m - i)) ≡ cost
+pub price-ends : (v s : ℕ) (b : List ℕ) (m i cost : ℕ) → m ≤ i → cost + cascadePrice v s (span (gateIn b) i (m - i)) ≡ cost
 unfolding cascadePrice total
-price-ends v b m i cost le = rw (span-ends (gateIn b) m i le, add-zero)
+price-ends v s b m i cost le = rw (span-ends (gateIn b) m i le, add-zero)
 
--- the dearest gate has five controls, none of the global value: 75 and 10
-pub price-le : (n v : ℕ) (g : Gate) → n ≤ 6 → IsGate n g → gatePrice v g ≤ 85
-unfolding gatePrice
-price-le n v g six ok =
+-- the dearest gate has five controls, none of the global value, and an operator that is not fitted: 75, 10 and 1
+pub price-le : (n v s : ℕ) (g : Gate) → n ≤ 6 → IsGate n g → gatePrice v s g ≤ 86
+unfolding gatePrice plainPrice
+price-le n v s g six ok =
     let most : base 5 ≡ 75 = unfold base in refl in
     let five : base (controlCount g) ≤ base 5 = base-le (controlCount g) 5 (rw (← count-others g) (others-le n 3 g six ok)) in
-    omega (arith, others-le n v g six ok)
+    omega (arith, others-le n v g six ok, one-at-most (isFitted s (g .operator)))
 
 -- so the cost of any cascade fits 32 bits
-pub cost-fits : (n v : ℕ) (gs : List Gate) → n ≤ 6 → Cascade n gs → cascadePrice v gs ≤ 680000
+pub cost-fits : (n v s : ℕ) (gs : List Gate) → n ≤ 6 → Cascade n gs → cascadePrice v s gs ≤ 688000
 unfolding cascadePrice
-cost-fits n v gs six c =
-    let each : Each (λ g. gatePrice v g ≤ 85) gs = each-imp (IsGate n) (λ g. gatePrice v g ≤ 85) (λ g ok. price-le n v g six ok) gs (c .gates) in
-    omega (arith, total-le (gatePrice v) 85 gs each, c .most)
+cost-fits n v s gs six c =
+    let each : Each (λ g. gatePrice v s g ≤ 86) gs = each-imp (IsGate n) (λ g. gatePrice v s g ≤ 86) (λ g ok. price-le n v s g six ok) gs (c .gates) in
+    omega (arith, total-le (gatePrice v s) 86 gs each, c .most)
+
+-- with all fitted it is document 01's price
+pub all-fitted : (v : ℕ) (gs : List Gate) → cascadePrice v 7 gs ≡ total (plainPrice v) gs
+unfolding cascadePrice gatePrice
+all-fitted v gs = total-ext (gatePrice v 7) (plainPrice v) one gs
+  where
+    one : (g : Gate) → gatePrice v 7 g ≡ plainPrice v g
+    one g = rw (fitted-all (g .operator)) (add-zero (plainPrice v g))

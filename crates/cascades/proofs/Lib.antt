@@ -1,5 +1,6 @@
 pub mod Cascades
 pub mod Undone
+pub mod Boards
 pub mod Costs
 pub mod Answers
 pub mod Stored

@@ -8,6 +8,7 @@ use Rattle.ranges.specs.Ranges.{first}
 use Rattle.card.specs.Card.{Answer, Answer.accepted, Answer.refused, refusing, onLines, after, laid}
 use Rattle.gates.specs.Records.{isRecord}
 use Rattle.cascades.specs.Cascades.{records, gatesOf, bytesOf, ran, undoing}
+use Rattle.cascades.specs.Boards.{onBoard}
 use Rattle.cascades.specs.Prices.{cascadePrice}
 use Rattle.cascades.specs.declared.Counted.{Counted}
 use Rattle.cascades.specs.declared.Ran.{Ran}
@@ -68,6 +69,6 @@ invertAnswer n b room = onLines n (onCascade n b (refusing (ltb (room / 8) (reco
 unfoldable pub invertRoom : ℕ → List ℕ → List ℕ → List ℕ
 invertRoom n b room = after (invertAnswer n b (length room)) (laid (bytesOf (undoing (gatesOf b))) room) room
 
--- 1 10 6 7
-unfoldable pub priceAnswer : ℕ → ℕ → List ℕ → Answer
-priceAnswer n v b = onLines n (refusing (ltb 2 v) 10 0 (onCascade n b (accepted (cascadePrice v (gatesOf b) ∷ []))))
+-- 1 10 13 6 7
+unfoldable pub priceAnswer : ℕ → ℕ → ℕ → List ℕ → Answer
+priceAnswer n v s b = onBoard n v s (onCascade n b (accepted (cascadePrice v s (gatesOf b) ∷ [])))

@@ -1,4 +1,5 @@
 pub mod Cascades
+pub mod Boards
 pub mod Prices
 pub mod Answers
 pub mod Inner

@@ -1,4 +1,4 @@
--- The price of a gate and of a cascade, at a global control value v.
+-- The price of a gate and of a cascade, on a board with the global control value v and the fitted set s.
 use Prim.Native.Nat.{ℕ, zero, suc, _+_, _*_}
 use mathlib.Core.Bool.{cond, _||_}
 use mathlib.Core.List.{List}
@@ -7,6 +7,7 @@ use Rattle.ranges.specs.Ranges.{sum}
 use Rattle.ranges.specs.Lists.{total}
 use Rattle.gates.specs.declared.Gate.{Gate}
 use Rattle.gates.specs.Gates.{control}
+use Rattle.cascades.specs.Boards.{isFitted}
 
 -- the base price of k controls: 1, 1, 5, and from three on five more than twice the price with one fewer
 unfoldable pub base : ℕ → ℕ
@@ -23,10 +24,14 @@ controlCount g = sum (λ k. cond (eqb (control g k) 3) 0 1) 0 6
 unfoldable pub others : ℕ → Gate → ℕ
 others v g = sum (λ k. cond (eqb (control g k) 3 || eqb (control g k) v) 0 1) 0 6
 
--- each control whose value is not v adds 2
-unfoldable pub gatePrice : ℕ → Gate → ℕ
-gatePrice v g = base (controlCount g) + 2 * others v g
+-- document 01's price, with all fitted: each control whose value is not v adds 2
+unfoldable pub plainPrice : ℕ → Gate → ℕ
+plainPrice v g = base (controlCount g) + 2 * others v g
+
+-- document 02's: a gate whose operator is not fitted costs 1 more
+unfoldable pub gatePrice : ℕ → ℕ → Gate → ℕ
+gatePrice v s g = plainPrice v g + cond (isFitted s (g .operator)) 0 1
 
 -- a cascade costs the sum
-unfoldable pub cascadePrice : ℕ → List Gate → ℕ
-cascadePrice v gs = total (gatePrice v) gs
+unfoldable pub cascadePrice : ℕ → ℕ → List Gate → ℕ
+cascadePrice v s gs = total (gatePrice v s) gs

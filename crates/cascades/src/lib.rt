@@ -12,6 +12,7 @@ ghost use Rattle.cascades.specs.Answers.{countedAs, ranAs, pricedAs, onC
 pub mod lengths;
 mod prices;
 pub mod scan;
+mod sets;
 mod undo;
 
 use gates::Record;
@@ -136,9 +137,9 @@ pub fn invert(lines: u8, cascade: &[u8], room: &mut [u8]) -> Counted
 }
 
 // The sum of the gates' prices, with refusals 6 and 7 on the way.
-fn price_on(lines: u8, value: u8, cascade: &[u8]) -> Priced
+fn price_on(lines: u8, value: u8, fitted: u8, cascade: &[u8]) -> Priced
     requires { ⌜ linesOk lines ≡ true ⌝ }
-    ensures { λ r. ⌜ pricedAs r ≡ onCascade lines (now (cascade .entry)) (accepted (cascadePrice value (gatesOf (now (cascade .entry))) ∷ [])) ⌝ }
+    ensures { λ r. ⌜ pricedAs r ≡ onCascade lines (now (cascade .entry)) (accepted (cascadePrice value fitted (gatesOf (now (cascade .entry))) ∷ [])) ⌝ }
 {
     if !lengths::length_ok(cascade.len()) {
         return Priced::Refused {
@@ -150,21 +151,26 @@ fn price_on(lines: u8, value: u8, cascade: &[u8]) -> Priced
     let mut cost: u32 = 0;
     let mut i: usize = 0;
     while i < m {
-        let Record::Gate { controls, .. } = gates::decode(lines, cascade, 8 * i) else {
+        let Record::Gate {
+            operator,
+            controls,
+            ..
+        } = gates::decode(lines, cascade, 8 * i)
+        else {
             return Priced::Refused {
                 number: 7,
                 place: i,
             };
         };
-        cost = cost + prices::price_gate(value, controls);
+        cost = cost + prices::price_gate(value, fitted, operator, controls);
         i = i + 1;
     }
     Priced::Cost(cost)
 }
 
-// What the cascade costs at a global control value: refusals 1, 10, 6, 7.
-pub fn price(lines: u8, value: u8, cascade: &[u8]) -> Priced
-    ensures { λ r. ⌜ pricedAs r ≡ priceAnswer lines value (now (cascade .entry)) ⌝ }
+// What the cascade costs on a board with a global control value and a fitted set (D 1, E 2, N 4, added): refusals 1, 10, 13, 6, 7.
+pub fn price(lines: u8, value: u8, fitted: u8, cascade: &[u8]) -> Priced
+    ensures { λ r. ⌜ pricedAs r ≡ priceAnswer lines value fitted (now (cascade .entry)) ⌝ }
 {
     if !card::lines_ok(lines) {
         return Priced::Refused {
@@ -178,5 +184,11 @@ pub fn price(lines: u8, value: u8, cascade: &[u8]) -> Priced
             place: 0,
         };
     }
-    price_on(lines, value, cascade)
+    if !sets::set_ok(fitted) {
+        return Priced::Refused {
+            number: 13,
+            place: 0,
+        };
+    }
+    price_on(lines, value, fitted, cascade)
 }

@@ -4,7 +4,8 @@ ghost use mathlib.Core.Bool.{cond, _||_};
 ghost use Prim.Native.Nat.{_≤_};
 ghost use lib.Dec.{eqb};
 ghost use Rattle.cascades.specs.Prices.{base, others, gatePrice};
-ghost use Rattle.cascades.specs.Inner.Pricing.{withControls};
+ghost use Rattle.cascades.specs.Inner.Pricing.{gateWith};
+use crate::sets;
 
 // The base price of k controls.
 fn base_price(k: usize) -> u32
@@ -32,7 +33,7 @@ fn count_other(v: u16, x: u16) -> usize
 
 // How many controls have another value than v: all of them where v is 3, which no control has.
 fn count_others(v: u16, controls: u16) -> usize
-    ensures { λ r. ⌜ (r ≡ others v (withControls controls)) × (r ≤ 6) ⌝ }
+    ensures { λ r. ⌜ (r ≡ others v (gateWith 0 controls)) × (r ≤ 6) ⌝ }
 {
     let mut count: usize = 0;
     let mut k: usize = 0;
@@ -43,9 +44,14 @@ fn count_others(v: u16, controls: u16) -> usize
     count
 }
 
-// The price of a gate with these controls at the global control value v.
-pub fn price_gate(v: u8, controls: u16) -> u32
-    ensures { λ r. ⌜ r ≡ gatePrice v (withControls controls) ⌝ }
+// The price of a gate with this operator and these controls, at the global control value v.
+pub fn price_gate(v: u8, fitted: u8, operator: u8, controls: u16) -> u32
+    ensures { λ r. ⌜ r ≡ gatePrice v fitted (gateWith operator controls) ⌝ }
 {
-    base_price(count_others(3, controls)) + 2 * count_others(v as u16, controls) as u32
+    let plain = base_price(count_others(3, controls)) + 2 * count_others(v as u16, controls) as u32;
+    if sets::is_fitted(fitted, operator) {
+        plain
+    } else {
+        plain + 1
+    }
 }

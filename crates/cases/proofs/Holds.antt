@@ -10,7 +10,8 @@ use Rattle.gates.specs.Records.{lineOk, linesOkAt, packedAt, isRecord, gateAt, 
 use Rattle.tables.specs.Tables.{tooLarge, repeated, firstLarge, firstRepeated, onTable, checkTableAnswer}
 use Rattle.procedure.specs.Procedure.{adding, digitStep, rowSteps, rows, settled, cascadeFor}
 use Rattle.cascades.specs.Cascades.{gatesOf, bytesOf, tableFor}
-use Rattle.cascades.specs.Prices.{base, controlCount, others, gatePrice, cascadePrice}
+use Rattle.cascades.specs.Boards.{setOk, isFitted, onBoard}
+use Rattle.cascades.specs.Prices.{base, controlCount, others, plainPrice, gatePrice, cascadePrice}
 use Rattle.cascades.specs.Answers.{lengthOk, badRecord, firstBad, onRecords, checkAnswer, priceAnswer}
 use Rattle.synthesis.specs.Synthesis.{exchanger, controlFor, gateFor, synthesized, bound, synthesizeAnswer, synthesizeRoom}
 use Rattle.rules.specs.Places.{isC, sameType, upsets, blocks, clashes, mayChange}
@@ -33,7 +34,8 @@ unfolding every some sum first span
     tooLarge repeated firstLarge firstRepeated onTable checkTableAnswer
     adding digitStep rowSteps rows settled cascadeFor
     gatesOf bytesOf tableFor
-    base controlCount others gatePrice cascadePrice
+    setOk isFitted onBoard
+    base controlCount others plainPrice gatePrice cascadePrice
     lengthOk badRecord firstBad onRecords checkAnswer priceAnswer
     exchanger controlFor gateFor synthesized bound synthesizeAnswer synthesizeRoom
     isC sameType upsets blocks clashes mayChange

@@ -24,32 +24,32 @@ pub record Case : Type 0 where
   pub computed : Result
   pub expected : Result
 
-abbrev answer-is : Answer → Answer → List Case
+abbrev pub answer-is : Answer → Answer → List Case
 answer-is a b = record { computed = says a; expected = says b } ∷ []
 
-abbrev numbers-are : List ℕ → List ℕ → List Case
+abbrev pub numbers-are : List ℕ → List ℕ → List Case
 numbers-are a b = record { computed = lists a; expected = lists b } ∷ []
 
 -- records by their names: the operator, the target, and what stands on the other of x0 and x1
-abbrev C1 : ℕ
+abbrev pub C1 : ℕ
 C1 = 1
 
-abbrev C2 : ℕ
+abbrev pub C2 : ℕ
 C2 = 2
 
-abbrev N : ℕ
+abbrev pub N : ℕ
 N = 3
 
-abbrev D : ℕ
+abbrev pub D : ℕ
 D = 4
 
-abbrev E : ℕ
+abbrev pub E : ℕ
 E = 5
 
-abbrev no-control : ℕ
+abbrev pub no-control : ℕ
 no-control = 3
 
-abbrev x0 : ℕ → ℕ → List ℕ
+abbrev pub x0 : ℕ → ℕ → List ℕ
 x0 o c = o ∷ 0 ∷ 3 ∷ c ∷ 3 ∷ 3 ∷ 3 ∷ 3 ∷ []
 
 abbrev x1 : ℕ → ℕ → List ℕ
@@ -67,9 +67,9 @@ old-bytes i m = span (λ k. 0x80 + k) i m
 abbrev bytes-for : ℕ → List ℕ → List ℕ
 bytes-for n t = bytesOf (synthesized n t)
 
--- the cascade b costs c at the global control value 2
+-- the cascade b costs c at the global control value 2, with all operators fitted
 abbrev price-is : ℕ → List ℕ → ℕ → List Case
-price-is n b c = answer-is (priceAnswer n 2 b) (accepted (c ∷ []))
+price-is n b c = answer-is (priceAnswer n 2 7 b) (accepted (c ∷ []))
 
 -- synthesis of the table t into a room of m bytes answers a and leaves b
 abbrev synthesizes : ℕ → List ℕ → ℕ → Answer → List ℕ → List Case

@@ -12,12 +12,14 @@ use denote.Ref.{RefT, ptr, now}
 use borrow.Author.Tests.{lt-ltb, le-ltb, eqb-true, eqb-false, not-true, not-false}
 use Rattle.ranges.proofs.Searches.{Found, found, first-ext}
 use Rattle.ranges.proofs.Spans.{length-span, span-at, span-ext}
-use Rattle.card.specs.Card.{Answer, Answer.accepted, Answer.refused, refusing, onLines}
+use Rattle.card.specs.Card.{Answer, Answer.accepted, Answer.refused}
 use Rattle.card.proofs.Cards.{good-lines, refusing-yes, refusing-no}
 use Rattle.gates.specs.declared.Gate.{Gate}
 use Rattle.cascades.specs.Cascades.{records, gatesOf, ran, tableFor, tableOf}
 use Rattle.cascades.specs.Inner.Checked.{Whole}
+use Rattle.cascades.specs.Boards.{onBoard}
 use Rattle.cascades.specs.Answers.{onCascade, priceAnswer}
+use Rattle.cascades.proofs.Boards.{board-passed}
 use Rattle.cascades.proofs.Checks.{passed, price-accepted, price-refused}
 use Rattle.choice.specs.Choice.{firstDifference, secondWins, chooseAnswer, Handed}
 use Rattle.choice.specs.Inner.Comparing.{firstUnlike}
@@ -62,34 +64,34 @@ module _ (n : ℕ) (gs hs : List Gate) where
 on-cascade-passed : (n : ℕ) (b : List ℕ) (m : ℕ) (x : Answer) → Whole n b m → onCascade n b x ≡ x
 on-cascade-passed n b m x w = sym (good-lines n (onCascade n b x) (w .lines)) ∙ passed n b x m w
 
-module _ (n v : ℕ) (b c : List ℕ) where
+module _ (n v s : ℕ) (b c : List ℕ) where
   -- the first is refused
-  pub choose-first : (k p : ℕ) → priceAnswer n v b ≡ refused k p → chooseAnswer n v b c ≡ refused k p
+  pub choose-first : (k p : ℕ) → priceAnswer n v s b ≡ refused k p → chooseAnswer n v s b c ≡ refused k p
   unfolding chooseAnswer
-  choose-first k p e = price-refused n b v k p _ e
+  choose-first k p e = price-refused n b v s k p _ e
 
-  module _ (vs : List ℕ) (e : priceAnswer n v b ≡ accepted vs) where
+  module _ (vs : List ℕ) (e : priceAnswer n v s b ≡ accepted vs) where
     first-through : (x : Answer) → onCascade n b x ≡ x
-    first-through x = on-cascade-passed n b (records b) x (price-accepted n b v vs e .whole)
+    first-through x = on-cascade-passed n b (records b) x (price-accepted n b v s vs e .whole)
 
     -- the second is
-    pub choose-second : (k p : ℕ) → priceAnswer n v c ≡ refused k p → chooseAnswer n v b c ≡ refused k p
+    pub choose-second : (k p : ℕ) → priceAnswer n v s c ≡ refused k p → chooseAnswer n v s b c ≡ refused k p
     unfolding chooseAnswer
-    choose-second k p f = ap (λ (a : Answer). onLines n (refusing (ltb 2 v) 10 0 a)) (first-through _) ∙ price-refused n c v k p _ f
+    choose-second k p f = ap (onBoard n v s) (first-through _) ∙ price-refused n c v s k p _ f
 
     -- neither is: 11 decides, and then cost and length
-    module _ (ws : List ℕ) (f : priceAnswer n v c ≡ accepted ws) where
-      let-through : (x : Answer) → onLines n (refusing (ltb 2 v) 10 0 (onCascade n b (onCascade n c x))) ≡ x
+    module _ (ws : List ℕ) (f : priceAnswer n v s c ≡ accepted ws) where
+      let-through : (x : Answer) → onBoard n v s (onCascade n b (onCascade n c x)) ≡ x
       let-through x =
-          let two = price-accepted n c v ws f in
-          good-lines n _ (two .whole .lines) ∙ two .value-passed _ ∙ first-through _ ∙ on-cascade-passed n c (records c) x (two .whole)
+          let two = price-accepted n c v s ws f in
+          board-passed n v s (two .board) _ ∙ first-through _ ∙ on-cascade-passed n c (records c) x (two .whole)
 
-      pub choose-differ : (d : ℕ) → d ≡ firstDifference n (gatesOf b) (gatesOf c) → d < 3 ^ n → chooseAnswer n v b c ≡ refused 11 d
+      pub choose-differ : (d : ℕ) → d ≡ firstDifference n (gatesOf b) (gatesOf c) → d < 3 ^ n → chooseAnswer n v s b c ≡ refused 11 d
       unfolding chooseAnswer
       choose-differ d q lt = let-through _ ∙ rw (← q) (refusing-yes (ltb d (3 ^ n)) 11 d _ (lt-ltb d (3 ^ n) lt))
 
-      pub choose-same : (d : ℕ) (t : Bool) → d ≡ firstDifference n (gatesOf b) (gatesOf c) → 3 ^ n ≤ d → secondWins v (gatesOf b) (gatesOf c) ≡ t
-          → chooseAnswer n v b c ≡ accepted (cond t 2 1 ∷ [])
+      pub choose-same : (d : ℕ) (t : Bool) → d ≡ firstDifference n (gatesOf b) (gatesOf c) → 3 ^ n ≤ d → secondWins v s (gatesOf b) (gatesOf c) ≡ t
+          → chooseAnswer n v s b c ≡ accepted (cond t 2 1 ∷ [])
       unfolding chooseAnswer
       choose-same d t q le w = let-through _ ∙ rw (← q, w) (refusing-no (ltb d (3 ^ n)) 11 d _ (le-ltb d (3 ^ n) le))
 

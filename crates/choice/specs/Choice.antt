@@ -7,9 +7,10 @@ use lib.Dec.{eqb, ltb}
 use lib.ListN.{length}
 use denote.Ref.{RefT, ptr, now}
 use Rattle.ranges.specs.Ranges.{first}
-use Rattle.card.specs.Card.{Answer, Answer.accepted, Answer.refused, refusing, onLines}
+use Rattle.card.specs.Card.{Answer, Answer.accepted, Answer.refused, refusing}
 use Rattle.gates.specs.declared.Gate.{Gate}
 use Rattle.cascades.specs.Cascades.{gatesOf, ran}
+use Rattle.cascades.specs.Boards.{onBoard}
 use Rattle.cascades.specs.Prices.{cascadePrice}
 use Rattle.cascades.specs.Answers.{onCascade}
 use Rattle.choice.specs.declared.Choice.{Choice}
@@ -24,17 +25,18 @@ choiceAs (Choice.Refused k p) = refused k p
 unfoldable pub firstDifference : ℕ → List Gate → List Gate → ℕ
 firstDifference n gs hs = first (λ p. not (eqb (ran gs p) (ran hs p))) 0 (3 ^ n)
 
--- the second costs less, or the same with fewer gates
-unfoldable pub secondWins : ℕ → List Gate → List Gate → Bool
-secondWins v gs hs = ltb (cascadePrice v hs) (cascadePrice v gs) || eqb (cascadePrice v hs) (cascadePrice v gs) && ltb (length hs) (length gs)
+-- at the value v with the fitted set s the second costs less, or the same with fewer gates
+unfoldable pub secondWins : ℕ → ℕ → List Gate → List Gate → Bool
+secondWins v s gs hs =
+    ltb (cascadePrice v s hs) (cascadePrice v s gs) || eqb (cascadePrice v s hs) (cascadePrice v s gs) && ltb (length hs) (length gs)
 
--- 1 10, 6 7 of the first, 6 7 of the second, 11
-unfoldable pub chooseAnswer : ℕ → ℕ → List ℕ → List ℕ → Answer
-chooseAnswer n v b c =
+-- 1 10 13, 6 7 of the first, 6 7 of the second, 11
+unfoldable pub chooseAnswer : ℕ → ℕ → ℕ → List ℕ → List ℕ → Answer
+chooseAnswer n v s b c =
     let gs = gatesOf b in
     let hs = gatesOf c in
     let d = firstDifference n gs hs in
-    onLines n (refusing (ltb 2 v) 10 0 (onCascade n b (onCascade n c (refusing (ltb d (3 ^ n)) 11 d (accepted (cond (secondWins v gs hs) 2 1 ∷ []))))))
+    onBoard n v s (onCascade n b (onCascade n c (refusing (ltb d (3 ^ n)) 11 d (accepted (cond (secondWins v s gs hs) 2 1 ∷ [])))))
 
 -- what is handed back for an answer: that lent cascade itself, or the empty part at the start of the first
 pub record Handed (a : Answer) (one two r : RefT (List ℕ)) : Type 0 where

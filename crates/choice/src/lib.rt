@@ -14,13 +14,14 @@ pub enum Choice {
     Refused { number: u8, place: usize },
 }
 
-// The one that costs less, then the one with fewer gates, then the first: refusals 1, 10, 6 and 7 of the first, 6 and 7 of the second, 11.
-pub fn choose(lines: u8, value: u8, first: &[u8], second: &[u8]) -> Choice
-    ensures { λ r. ⌜ choiceAs r ≡ chooseAnswer lines value (now (first .entry)) (now (second .entry)) ⌝ }
+// The one that costs less on a board with a global control value and a fitted set, then the one with fewer gates, then the first: refusals 1, 10, 13, 6
+// and 7 of the first, 6 and 7 of the second, 11.
+pub fn choose(lines: u8, value: u8, fitted: u8, first: &[u8], second: &[u8]) -> Choice
+    ensures { λ r. ⌜ choiceAs r ≡ chooseAnswer lines value fitted (now (first .entry)) (now (second .entry)) ⌝ }
 {
-    match cascades::price(lines, value, first) {
+    match cascades::price(lines, value, fitted, first) {
         Priced::Refused { number, place } => Choice::Refused { number, place },
-        Priced::Cost(one) => match cascades::price(lines, value, second) {
+        Priced::Cost(one) => match cascades::price(lines, value, fitted, second) {
             Priced::Refused { number, place } => Choice::Refused { number, place },
             Priced::Cost(two) => {
                 let input = compare::first_difference(lines, first, second);
@@ -41,10 +42,10 @@ pub fn choose(lines: u8, value: u8, first: &[u8], second: &[u8]) -> Choice
 }
 
 // That lent cascade itself; where the answer is a refusal, the empty part at the start of the first.
-pub fn cheaper<'a>(lines: u8, value: u8, first: &'a [u8], second: &'a [u8]) -> &'a [u8]
-    ensures { λ r. ⌜ Handed (chooseAnswer lines value (now (first .entry)) (now (second .entry))) (first .entry) (second .entry) r ⌝ }
+pub fn cheaper<'a>(lines: u8, value: u8, fitted: u8, first: &'a [u8], second: &'a [u8]) -> &'a [u8]
+    ensures { λ r. ⌜ Handed (chooseAnswer lines value fitted (now (first .entry)) (now (second .entry))) (first .entry) (second .entry) r ⌝ }
 {
-    match choose(lines, value, first, second) {
+    match choose(lines, value, fitted, first, second) {
         Choice::First => first,
         Choice::Second => second,
         Choice::Refused {

@@ -1,22 +1,37 @@
--- Demand 1 for the two calls that hand a reference back: what `cheaper` and `open` promise, read by the rows of the card. Assumes nothing.
+-- Demand 1 for the two calls that hand a reference back: what `cheaper` and `open` promise, read by the rows of the card; and the rules by which one of
+-- two cascades is the cheaper. Assumes nothing.
 use Prim.Native.Nat.{ℕ}
-use mathlib.Core.Path.{_≡_, sym, ap, _∙_}
-use mathlib.Core.Bool.{cond}
-use mathlib.Core.List.{List, [], _∷_}
-use lib.ListN.{getD}
-use denote.Ref.{RefT, ptr, now}
-use Rattle.card.specs.Card.{Answer.accepted, Answer.refused}
-use Rattle.cascades.specs.Cascades.{gatesOf}
+use mathlib.Core.Path.{ap, _∙_}
+use mathlib.Core.List.{List}
+use native.Mathlib.Omega.{arith}
+use lib.ListN.{length, getD}
+use borrow.Author.Tests.{lt-ltb, le-ltb, eq-eqb, ne-eqb}
+use denote.Ref.{RefT, now}
+use Rattle.gates.specs.declared.Gate.{Gate}
+use Rattle.cascades.specs.Prices.{cascadePrice}
 use Rattle.choice.specs.Choice.{secondWins, chooseAnswer, Handed}
-use Rattle.files.specs.Files.{linesIn, startOf, trailerAt}
 use Rattle.readers.specs.declared.Reader.{Reader}
 use Rattle.readers.specs.Readers.{Opened}
+use Rattle.demands.specs.Worth.{CheaperIs}
 use Rattle.demands.specs.Lent.{HandedBack, OpenedBy}
 use Rattle.demands.proofs.One.{choose, opening}
 
-pub cheaper : (n v : ℕ) (one two r : RefT (List ℕ)) → Handed (chooseAnswer n v (now one) (now two)) one two r → HandedBack n v one two r
-cheaper n v one two r h =
-    let exactly = choose n v (now one) (now two) in
+-- the three rules of the choice
+pub cheaper-is : (v s : ℕ) (gs hs : List Gate) → CheaperIs v s gs hs (secondWins v s gs hs)
+unfolding secondWins
+cheaper-is v s gs hs =
+    let one = cascadePrice v s gs in
+    let two = cascadePrice v s hs in
+    record {
+      less-cost = λ lt. rw (lt-ltb two one lt);
+      more-cost = λ lt. rw (le-ltb two one (omega arith), ne-eqb two one (λ e. omega arith));
+      fewer-gates = λ e lt. rw (le-ltb two one (omega arith), eq-eqb two one e, lt-ltb (length hs) (length gs) lt);
+      the-first = λ e le. rw (le-ltb two one (omega arith), eq-eqb two one e, le-ltb (length hs) (length gs) le);
+    }
+
+pub cheaper : (n v s : ℕ) (one two r : RefT (List ℕ)) → Handed (chooseAnswer n v s (now one) (now two)) one two r → HandedBack n v s one two r
+cheaper n v s one two r h =
+    let exactly = choose n v s (now one) (now two) in
     record {
       second = λ none e. h .the-second (exactly .accepts .1 none ∙ rw e);
       first = λ none e. h .the-first (exactly .accepts .1 none ∙ rw e);

@@ -1,16 +1,16 @@
 -- Demand 1, the places. Where a row of the card names the first of something, its place is the least index with the property, in the property's own words:
 -- no search of a call has to be believed for that. Assumes nothing.
-use Prim.Native.Nat.{ℕ, _*_, _^_, _≤_, _<_}
-use mathlib.Core.Path.{_≡_, sym}
-use mathlib.Core.Logic.{⊎-elim}
-use mathlib.Core.Bool.{Bool, true, false, not}
+use Prim.Native.Nat.{ℕ, zero, suc, _+_, _*_, _^_, _≤_, _<_}
+use mathlib.Core.Path.{_≡_, refl, sym}
+use mathlib.Core.Logic.{⊎-elim, _↔_}
+use mathlib.Core.Bool.{Bool, true, false, cond, not, _||_}
 use mathlib.Core.List.{List, []}
 use native.Mathlib.Omega.{arith}
 use lib.Dec.{eqb, leb, ltb}
 use lib.ListN.{length, getD}
-use borrow.Author.Tests.{eqb-true, eqb-false, eq-eqb, ne-eqb, leb-true, le-leb, ltb-true, ltb-false, not-true, not-false}
+use borrow.Author.Tests.{eqb-true, eqb-false, eq-eqb, leb-true, le-leb, ltb-true, ltb-false, not-true, not-false}
 use Rattle.ranges.specs.Ranges.{some, first}
-use Rattle.ranges.proofs.Bools.{decide, clash}
+use Rattle.ranges.proofs.Bools.{and-left, and-right, decide, clash}
 use Rattle.ranges.proofs.Tests.{some-hit, some-not}
 use Rattle.ranges.proofs.Searches.{found}
 use Rattle.card.specs.Card.{linesOk}
@@ -19,12 +19,13 @@ use Rattle.gates.specs.declared.Gate.{Gate}
 use Rattle.gates.specs.Records.{isRecord}
 use Rattle.tables.specs.Tables.{tooLarge, repeated, firstLarge, firstRepeated}
 use Rattle.cascades.specs.Cascades.{records, ran}
+use Rattle.cascades.specs.Boards.{setOk}
 use Rattle.cascades.specs.Answers.{badRecord, firstBad}
 use Rattle.choice.specs.Choice.{firstDifference}
 use Rattle.demands.specs.CardRows.{Places}
-use Rattle.names.specs.Names.{otherName, textLines, good, gateNamed, firstWrong}
+use Rattle.names.specs.Names.{textLines, good, gateNamed, firstWrong}
 use Rattle.names.proofs.GoodLines.{good-gate, gate-good}
-use Rattle.demands.specs.Refusals.{row3, row4, row7, row11, row12, Repeats, LineOf}
+use Rattle.demands.specs.Refusals.{row3, row4, row7, row11, row12, row13, Repeats, SubsetNumber, LineOf}
 
 -- the first number below m that passes a test is the least with the property that the test decides
 least-place : (f : ℕ → Bool) (P : ℕ → Type 0) (m k : ℕ) → ((i : ℕ) → f i ≡ true → P i) → ((i : ℕ) → f i ≡ false → P i → ⊥)
@@ -101,3 +102,36 @@ row12-places n t ok =
 
     line-of : (l : List ℕ) → good n l ≡ true → LineOf n l
     line-of l e = let h = good-gate n (lines-are n ok .1) l e in record { gate = gateNamed n l; is = h .0; text = sym (h .1) }
+
+-- ---- a refusal that has no place
+
+-- a set that isn't the number of a non-empty subset of D, E, N
+pub row13-sets : (s : ℕ) → (row13 s .applies ≡ false) ↔ SubsetNumber s
+unfolding setOk
+row13-sets s = (
+  λ e.
+      let ok : setOk s ≡ true = not-false (setOk s) e in
+      subset s (leb-true 1 s (and-left (leb 1 s) _ ok)) (leb-true s 7 (and-right (leb 1 s) _ ok)),
+  λ w. rw (w .added) (refuses (w .d) (w .e) (w .n) (w .not-empty)),
+)
+  where
+    subset : (k : ℕ) → 1 ≤ k → k ≤ 7 → SubsetNumber k
+    subset zero lo hi = absurd (omega arith)
+    subset (suc zero) lo hi = record { d = true; e = false; n = false; not-empty = refl; added = refl }
+    subset (suc (suc zero)) lo hi = record { d = false; e = true; n = false; not-empty = refl; added = refl }
+    subset (suc (suc (suc zero))) lo hi = record { d = true; e = true; n = false; not-empty = refl; added = refl }
+    subset (suc (suc (suc (suc zero)))) lo hi = record { d = false; e = false; n = true; not-empty = refl; added = refl }
+    subset (suc (suc (suc (suc (suc zero))))) lo hi = record { d = true; e = false; n = true; not-empty = refl; added = refl }
+    subset (suc (suc (suc (suc (suc (suc zero)))))) lo hi = record { d = false; e = true; n = true; not-empty = refl; added = refl }
+    subset (suc (suc (suc (suc (suc (suc (suc zero))))))) lo hi = record { d = true; e = true; n = true; not-empty = refl; added = refl }
+    subset (suc (suc (suc (suc (suc (suc (suc (suc k)))))))) lo hi = absurd (omega arith)
+
+    refuses : (d e n : Bool) → (d || e || n) ≡ true → not (setOk (cond d 1 0 + cond e 2 0 + cond n 4 0)) ≡ false
+    refuses true true true h = refl
+    refuses true true false h = refl
+    refuses true false true h = refl
+    refuses true false false h = refl
+    refuses false true true h = refl
+    refuses false true false h = refl
+    refuses false false true h = refl
+    refuses false false false h = clash false h refl

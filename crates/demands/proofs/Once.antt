@@ -9,6 +9,7 @@ use lib.ListN.{getD}
 use denote.Ref.{RefT, ptr, now}
 use Rattle.card.specs.Card.{Answer, Answer.accepted, Answer.refused, onLines}
 use Rattle.cascades.specs.Cascades.{gatesOf}
+use Rattle.cascades.specs.Boards.{onBoard}
 use Rattle.cascades.specs.Answers.{onRecords, countedAs, ranAs, pricedAs}
 use Rattle.tables.specs.declared.Checked.{Checked}
 use Rattle.cascades.specs.declared.Counted.{Counted}
@@ -200,30 +201,30 @@ given-once = once givenAs givenOf same
 -- ---- references
 
 -- `cheaper`: the same pointer and content
-pub handed-once : (n v : ℕ) (one two r s : RefT (List ℕ)) → Handed (chooseAnswer n v (now one) (now two)) one two r
-    → Handed (chooseAnswer n v (now one) (now two)) one two s → (ptr r ≡ ptr s) × (now r ≡ now s)
-unfolding chooseAnswer onLines onRecords decided
-handed-once n v one two r s hr hs = go (chooseAnswer n v (now one) (now two)) refl
+pub handed-once : (n v b : ℕ) (one two r s : RefT (List ℕ)) → Handed (chooseAnswer n v b (now one) (now two)) one two r
+    → Handed (chooseAnswer n v b (now one) (now two)) one two s → (ptr r ≡ ptr s) × (now r ≡ now s)
+unfolding chooseAnswer onBoard onLines onRecords decided
+handed-once n v b one two r s hr hs = go (chooseAnswer n v b (now one) (now two)) refl
   where
     wins : Bool
-    wins = secondWins v (gatesOf (now one)) (gatesOf (now two))
+    wins = secondWins v b (gatesOf (now one)) (gatesOf (now two))
 
     alike : r ≡ s → (ptr r ≡ ptr s) × (now r ≡ now s)
     alike e = (ap ptr e, ap now e)
 
-    go : (a : Answer) → chooseAnswer n v (now one) (now two) ≡ a → (ptr r ≡ ptr s) × (now r ≡ now s)
+    go : (a : Answer) → chooseAnswer n v b (now one) (now two) ≡ a → (ptr r ≡ ptr s) × (now r ≡ now s)
     go (refused k p) e = let x = hr .none k p e in let y = hs .none k p e in (x .0 ∙ sym (y .0), x .1 ∙ sym (y .1))
     go (accepted vs) e = by wins refl
       where
         values-are : (cond wins 2 1 ∷ []) ≡ vs
-        values-are = accepted-values (choiceRows n v (now one) (now two)) (cond wins 2 1 ∷ []) vs e
+        values-are = accepted-values (choiceRows n v b (now one) (now two)) (cond wins 2 1 ∷ []) vs e
 
         by : (w : Bool) → wins ≡ w → (ptr r ≡ ptr s) × (now r ≡ now s)
         by true q =
-            let a : chooseAnswer n v (now one) (now two) ≡ accepted (2 ∷ []) = e ∙ ap accepted (sym values-are) ∙ rw q in
+            let a : chooseAnswer n v b (now one) (now two) ≡ accepted (2 ∷ []) = e ∙ ap accepted (sym values-are) ∙ rw q in
             alike (hr .the-second a ∙ sym (hs .the-second a))
         by false q =
-            let a : chooseAnswer n v (now one) (now two) ≡ accepted (1 ∷ []) = e ∙ ap accepted (sym values-are) ∙ rw q in
+            let a : chooseAnswer n v b (now one) (now two) ≡ accepted (1 ∷ []) = e ∙ ap accepted (sym values-are) ∙ rw q in
             alike (hr .the-first a ∙ sym (hs .the-first a))
 
 -- `open`: the same pointer and content of the part held, and the same numbers

@@ -4,7 +4,6 @@ use Prim.Native.Nat.{ℕ, _+_, _*_, _/_, _^_}
 use mathlib.Core.Path.{_≡_, refl, sym}
 use mathlib.Core.Bool.{Bool, true, false, cond, not, _&&_}
 use lib.Dec.{eqb}
-use mathlib.Core.Logic.{_↔_}
 use mathlib.Core.List.{List, [], _∷_}
 use lib.ListN.{length}
 use Rattle.card.specs.Card.{Answer, Answer.accepted, Answer.refused, refusing, linesOk, onLines, after, values}
@@ -12,6 +11,7 @@ use Rattle.card.proofs.Cards.{not-accepted}
 use Rattle.tables.specs.Tables.{onTable, checkTableAnswer}
 use Rattle.gates.specs.Records.{isRecord, gateAt}
 use Rattle.cascades.specs.Cascades.{records, gatesOf, ran}
+use Rattle.cascades.specs.Boards.{onBoard}
 use Rattle.cascades.specs.Prices.{cascadePrice}
 use Rattle.cascades.specs.Answers.{onRecords, checkAnswer, runAnswer, invertAnswer, invertRoom, priceAnswer}
 use Rattle.tabulating.specs.Tabulating.{tabulateAnswer, tabulateRoom}
@@ -25,8 +25,8 @@ use Rattle.listings.specs.Listings.{listingText, listingAnswer, listingRoom}
 use Rattle.sheets.specs.Sheets.{linesOf, entriesOf, fileAnswer, sheetText, sheetAnswer, sheetRoom}
 use Rattle.texts.specs.GateTexts.{gateTexts}
 use Rattle.names.specs.Names.{otherName, textLines, onText, readNamesAnswer, readNamesRoom, writeNamesAnswer, writeNamesRoom}
-use Rattle.demands.specs.CardRows.{Row, decided, FirstIs, NoneApplies, Exactly, Kept}
-use Rattle.demands.specs.Refusals.{row1, row2, row3, row4, row5, row6, row6-lines, row7, row7-next, row8, row9, row9-note, row10, row11, row12, choiceRows, openingRows}
+use Rattle.demands.specs.CardRows.{Row, decided, Exactly, Kept}
+use Rattle.demands.specs.Refusals.{row1, row2, row3, row4, row5, row6, row6-lines, row7, row7-next, row8, row9, row9-note, row10, row12, row13, choiceRows, openingRows}
 use Rattle.demands.proofs.Decided.{first-refuses, refused-first, none-accepts, accepted-none}
 
 exactly : (rows : List Row) (vs : List ℕ) → Exactly (decided rows (accepted vs)) rows vs
@@ -79,9 +79,10 @@ pub invert-kept : (n : ℕ) (b room : List ℕ) → Kept (invertAnswer n b (leng
 unfolding invertRoom
 invert-kept n b room = kept (invertAnswer n b (length room)) _ room
 
-pub price : (n v : ℕ) (b : List ℕ) → Exactly (priceAnswer n v b) (row1 n ∷ row10 v ∷ row6 b ∷ row7 n b ∷ []) (cascadePrice v (gatesOf b) ∷ [])
-unfolding priceAnswer onLines onRecords decided
-price n v b = exactly (row1 n ∷ row10 v ∷ row6 b ∷ row7 n b ∷ []) (cascadePrice v (gatesOf b) ∷ [])
+pub price : (n v s : ℕ) (b : List ℕ)
+    → Exactly (priceAnswer n v s b) (row1 n ∷ row10 v ∷ row13 s ∷ row6 b ∷ row7 n b ∷ []) (cascadePrice v s (gatesOf b) ∷ [])
+unfolding priceAnswer onBoard onLines onRecords decided
+price n v s b = exactly (row1 n ∷ row10 v ∷ row13 s ∷ row6 b ∷ row7 n b ∷ []) (cascadePrice v s (gatesOf b) ∷ [])
 
 pub tidy : (n : ℕ) (b : List ℕ)
     → Exactly (tidyAnswer n b) (row1 n ∷ row6 b ∷ row7 n b ∷ []) (length (tidied (gatesOf b) .left) ∷ tidied (gatesOf b) .steps ∷ [])
@@ -93,13 +94,13 @@ unfolding tidyBuffer
 tidy-kept n b = kept (tidyAnswer n b) _ b
 
 -- 6 and 7 of the first, then of the second. `cheaper` hands back what this answer says (`Handed`)
-pub choose : (n v : ℕ) (b c : List ℕ)
-    → Exactly (chooseAnswer n v b c) (choiceRows n v b c)
-    (cond (secondWins v (gatesOf b) (gatesOf c)) 2 1 ∷ [])
-unfolding chooseAnswer onLines onRecords decided
-choose n v b c =
-    exactly (choiceRows n v b c)
-    (cond (secondWins v (gatesOf b) (gatesOf c)) 2 1 ∷ [])
+pub choose : (n v s : ℕ) (b c : List ℕ)
+    → Exactly (chooseAnswer n v s b c) (choiceRows n v s b c)
+    (cond (secondWins v s (gatesOf b) (gatesOf c)) 2 1 ∷ [])
+unfolding chooseAnswer onBoard onLines onRecords decided
+choose n v s b c =
+    exactly (choiceRows n v s b c)
+    (cond (secondWins v s (gatesOf b) (gatesOf c)) 2 1 ∷ [])
 
 pub write-file : (n : ℕ) (b note : List ℕ) (room : ℕ)
     → Exactly (writeAnswer n b note room) (row1 n ∷ row6 b ∷ row7 n b ∷ row9-note note ∷ row5 room (fileSize 8 note b) ∷ []) (fileSize 8 note b ∷ [])

@@ -1,6 +1,6 @@
--- Demand 3. An accepted table's cascade stays within the bound. Tidying a well-formed cascade keeps what it computes, raises neither gate count nor cost,
--- ends where no open pair fits a rule, and reports the procedure's rule uses, at most gates plus controls given. Assumes nothing.
-use Prim.Native.Nat.{ℕ, _-_, _*_, _/_, _^_, _≤_, _<_}
+-- Demand 3. An accepted table's cascade stays within the bound. Tidying a well-formed cascade keeps what it computes, raises neither gate count nor cost, whatever
+-- the global control value and the fitted set, ends where no open pair fits a rule, and reports the procedure's rule uses, at most gates plus controls given. Assumes nothing.
+use Prim.Native.Nat.{ℕ, _-_, _*_, _/_, _^_, _≤_}
 use mathlib.Core.Path.{_≡_, refl, ap}
 use mathlib.Core.Bool.{true}
 use mathlib.Core.List.{List, [], _∷_, _++_, map}
@@ -8,14 +8,17 @@ use native.Mathlib.Omega.{arith}
 use lib.ListN.{length, replicate, length-append}
 use lib.Seq.{drop-at}
 use Rattle.ranges.specs.Ranges.{span}
+use Rattle.ranges.specs.Lists.{total}
 use Rattle.card.specs.Card.{Answer.accepted, linesOk, laid}
 use Rattle.card.proofs.Cards.{lines-are, after-accepted}
 use Rattle.gates.specs.declared.Gate.{Gate}
 use Rattle.tables.specs.Permutations.{Permutation}
 use Rattle.cascades.specs.Cascades.{records, gateIn, gatesOf, bytesOf, Cascade}
+use Rattle.cascades.specs.Prices.{plainPrice, cascadePrice}
 use Rattle.cascades.proofs.Cascades.{whole-cascade}
 use Rattle.cascades.proofs.Stored.{length-bytes, laid-gates}
 use Rattle.cascades.proofs.Checks.{check-whole}
+use Rattle.cascades.proofs.Costs.{all-fitted}
 use Rattle.synthesis.specs.Synthesis.{bound, synthesized}
 use Rattle.synthesis.proofs.Synthesis.{synthesized-bound}
 use Rattle.rules.specs.Tidying.{tidied, tidyAnswer, tidyBuffer}
@@ -33,6 +36,10 @@ pub bounds-printed : map bound (1 ∷ 2 ∷ 3 ∷ 4 ∷ 5 ∷ 6 ∷ []) ≡ 2 �
 unfolding bound
 bounds-printed = refl
 
+-- with all operators fitted the price is document 01's
+pub price-of-document-01 : (v : ℕ) (gs : List Gate) → cascadePrice v 7 gs ≡ total (plainPrice v) gs
+price-of-document-01 = all-fitted
+
 -- what tidying is worth for the gates of a cascade on n lines
 pub tidy-worth : (n : ℕ) (gs : List Gate) → Cascade n gs → TidyWorth n gs
 tidy-worth n gs c =
@@ -40,7 +47,7 @@ tidy-worth n gs c =
       cascade = tidied-cascade n gs c;
       keeps = tidied-keeps n gs c;
       no-more-gates = tidied-count n gs c;
-      no-dearer = λ v le. tidied-cost n gs c v;
+      no-dearer = tidied-cost n gs c;
       ends = tidied-ends gs;
       rule-uses = tidied-steps gs;
       few-steps = tidied-few gs;

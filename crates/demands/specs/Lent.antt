@@ -17,10 +17,10 @@ pub record EmptyPart (lent r : RefT (List ℕ)) : Type 0 where
   pub empty : now r ≡ []
 
 -- of two lent cascades: the second, the first, or the empty part of the first
-pub record HandedBack (n v : ℕ) (one two r : RefT (List ℕ)) : Type 0 where
-  pub second : NoneApplies (choiceRows n v (now one) (now two)) → secondWins v (gatesOf (now one)) (gatesOf (now two)) ≡ true → r ≡ two
-  pub first : NoneApplies (choiceRows n v (now one) (now two)) → secondWins v (gatesOf (now one)) (gatesOf (now two)) ≡ false → r ≡ one
-  pub none : (k p : ℕ) → FirstIs (choiceRows n v (now one) (now two)) k p → EmptyPart one r
+pub record HandedBack (n v s : ℕ) (one two r : RefT (List ℕ)) : Type 0 where
+  pub second : NoneApplies (choiceRows n v s (now one) (now two)) → secondWins v s (gatesOf (now one)) (gatesOf (now two)) ≡ true → r ≡ two
+  pub first : NoneApplies (choiceRows n v s (now one) (now two)) → secondWins v s (gatesOf (now one)) (gatesOf (now two)) ≡ false → r ≡ one
+  pub none : (k p : ℕ) → FirstIs (choiceRows n v s (now one) (now two)) k p → EmptyPart one r
 
 -- the reader over a lent file: over the file itself, at its first record; or over its empty part, without lines
 pub record OpenedBy (f : RefT (List ℕ)) (r : Reader) : Type 0 where

@@ -1,8 +1,8 @@
 -- The refusal card of documents 01 and 02, a definition for each row: when it is given, and its place; and the rows of the two calls that hand a
 -- reference back.
-use Prim.Native.Nat.{ℕ, _^_, _<_}
+use Prim.Native.Nat.{ℕ, _+_, _^_, _<_}
 use mathlib.Core.Path.{_≡_}
-use mathlib.Core.Bool.{not, _&&_}
+use mathlib.Core.Bool.{Bool, true, cond, not, _&&_, _||_}
 use mathlib.Core.List.{List, [], _∷_}
 use lib.Dec.{eqb, leb, ltb}
 use lib.ListN.{length, getD}
@@ -12,6 +12,7 @@ use Rattle.gates.specs.Gates.{IsGate}
 use Rattle.gates.specs.Records.{isRecord}
 use Rattle.tables.specs.Tables.{firstLarge, firstRepeated}
 use Rattle.cascades.specs.Cascades.{records, gatesOf}
+use Rattle.cascades.specs.Boards.{setOk}
 use Rattle.cascades.specs.Answers.{lengthOk, firstBad}
 use Rattle.choice.specs.Choice.{firstDifference}
 use Rattle.files.specs.Files.{linesIn, recordsOf, frameOk}
@@ -80,9 +81,13 @@ row11 n gs hs = record { applies = ltb (firstDifference n gs hs) (3 ^ n); number
 abbrev pub row12 : ℕ → List ℕ → Row
 row12 n t = record { applies = ltb (firstWrong n (textLines t)) (length (textLines t)); number = 12; place = firstWrong n (textLines t) }
 
--- 1 10, 6 7 of the first, 6 7 of the second, 11
-abbrev pub choiceRows : ℕ → ℕ → List ℕ → List ℕ → List Row
-choiceRows n v b c = row1 n ∷ row10 v ∷ row6 b ∷ row7 n b ∷ row6 c ∷ row7 n c ∷ row11 n (gatesOf b) (gatesOf c) ∷ []
+-- the fitted set isn't a non-empty subset of D, E, N
+abbrev pub row13 : ℕ → Row
+row13 s = record { applies = not (setOk s); number = 13; place = 0 }
+
+-- 1 10 13, 6 7 of the first, 6 7 of the second, 11
+abbrev pub choiceRows : ℕ → ℕ → ℕ → List ℕ → List ℕ → List Row
+choiceRows n v s b c = row1 n ∷ row10 v ∷ row13 s ∷ row6 b ∷ row7 n b ∷ row6 c ∷ row7 n c ∷ row11 n (gatesOf b) (gatesOf c) ∷ []
 
 -- 9 1 6 7
 abbrev pub openingRows : List ℕ → List Row
@@ -93,6 +98,14 @@ pub record Repeats (t : List ℕ) (i : ℕ) : Type 0 where
   pub earlier : ℕ
   pub before : earlier < i
   pub equal : getD t earlier 0 ≡ getD t i 0
+
+-- s is the number of a non-empty subset of D, E, N: D 1, E 2, N 4, added
+pub record SubsetNumber (s : ℕ) : Type 0 where
+  pub d : Bool
+  pub e : Bool
+  pub n : Bool
+  pub not-empty : (d || e || n) ≡ true
+  pub added : s ≡ cond d 1 0 + cond e 2 0 + cond n 4 0
 
 -- l is the line of a gate on n lines, in document 003's names
 pub record LineOf (n : ℕ) (l : List ℕ) : Type 0 where

@@ -1,7 +1,7 @@
--- What the answers are worth: the cascade of a table (demand 2), and tidying (demand 3).
+-- What the answers are worth: the cascade of a table (demand 2), tidying (demand 3), and which of two cascades is the cheaper.
 use Prim.Native.Nat.{ℕ, _^_, _≤_, _<_}
 use mathlib.Core.Path.{_≡_}
-use mathlib.Core.Bool.{true, false}
+use mathlib.Core.Bool.{Bool, true, false}
 use mathlib.Core.List.{List}
 use lib.ListN.{length, getD}
 use Rattle.gates.specs.declared.Gate.{Gate}
@@ -31,8 +31,15 @@ pub record TidyWorth (n : ℕ) (gs : List Gate) : Type 0 where
   pub cascade : Cascade n (tidied gs .left)
   pub keeps : (p : ℕ) → ran (tidied gs .left) p ≡ ran gs p
   pub no-more-gates : length (tidied gs .left) ≤ length gs
-  pub no-dearer : (v : ℕ) → v ≤ 2 → cascadePrice v (tidied gs .left) ≤ cascadePrice v gs
+  pub no-dearer : (v s : ℕ) → cascadePrice v s (tidied gs .left) ≤ cascadePrice v s gs
   pub ends : (i j : ℕ) → i < j → j < length (tidied gs .left) → isOpen (tidied gs .left) i j ≡ true
       → fits (gate (tidied gs .left) i) (gate (tidied gs .left) j) ≡ false
   pub rule-uses : Repetition gs (tidied gs)
   pub few-steps : tidied gs .steps ≤ gatesAndControls gs
+
+-- of two cascades on a board with the value v and the fitted set s, whether the second is the cheaper: by cost, then by gates, then the first
+pub record CheaperIs (v s : ℕ) (gs hs : List Gate) (second : Bool) : Type 0 where
+  pub less-cost : cascadePrice v s hs < cascadePrice v s gs → second ≡ true
+  pub more-cost : cascadePrice v s gs < cascadePrice v s hs → second ≡ false
+  pub fewer-gates : cascadePrice v s hs ≡ cascadePrice v s gs → length hs < length gs → second ≡ true
+  pub the-first : cascadePrice v s hs ≡ cascadePrice v s gs → length gs ≤ length hs → second ≡ false

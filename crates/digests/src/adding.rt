@@ -8,8 +8,8 @@ use cascades::Priced;
 use tabulating::Tabulated;
 use tidying::Tidied;
 
-fn cost(lines: u8, value: u8, cascade: &[u8]) -> u64 {
-    match cascades::price(lines, value, cascade) {
+fn cost(lines: u8, value: u8, fitted: u8, cascade: &[u8]) -> u64 {
+    match cascades::price(lines, value, fitted, cascade) {
         Priced::Cost(cost) => cost as u64,
         Priced::Refused {
             number: _,
@@ -41,9 +41,12 @@ fn digest_inverse(digest: u32, lines: u8, cascade: &[u8], inverse: &mut [u8]) ->
 // A cascade as it is before tidying or after it.
 fn add_side(mut side: Side, lines: u8, cascade: &[u8], entries: &mut [u16]) -> Side {
     side.gates = plus(side.gates, (cascade.len() / 8) as u64);
-    side.cost_at_0 = plus(side.cost_at_0, cost(lines, 0, cascade));
-    side.cost_at_1 = plus(side.cost_at_1, cost(lines, 1, cascade));
-    side.cost_at_2 = plus(side.cost_at_2, cost(lines, 2, cascade));
+    side.cost_at_0 = plus(side.cost_at_0, cost(lines, 0, 7, cascade));
+    side.cost_at_1 = plus(side.cost_at_1, cost(lines, 1, 7, cascade));
+    side.cost_at_2 = plus(side.cost_at_2, cost(lines, 2, 7, cascade));
+    side.cost_with_d = plus(side.cost_with_d, cost(lines, 2, 1, cascade));
+    side.cost_with_e = plus(side.cost_with_e, cost(lines, 2, 2, cascade));
+    side.cost_with_n = plus(side.cost_with_n, cost(lines, 2, 4, cascade));
     side.records = fingerprints::digest_bytes(side.records, cascade);
     side.tables = digest_table(side.tables, lines, cascade, entries);
     side

@@ -1,4 +1,4 @@
-// A family's sums in print: its name and lines, 13 numbers, five digests.
+// A family's sums in print: its name and lines, 19 numbers, five digests.
 use crate::sums::Side;
 use crate::sums::Sums;
 use libc::STDOUT_FILENO;
@@ -24,6 +24,12 @@ fn print_side(word: &[u8], side: Side) {
     print_named(b"cost at 1 ", side.cost_at_1);
     io::write_all(STDOUT_FILENO, word);
     print_named(b"cost at 2 ", side.cost_at_2);
+    io::write_all(STDOUT_FILENO, word);
+    print_named(b"cost with D ", side.cost_with_d);
+    io::write_all(STDOUT_FILENO, word);
+    print_named(b"cost with E ", side.cost_with_e);
+    io::write_all(STDOUT_FILENO, word);
+    print_named(b"cost with N ", side.cost_with_n);
 }
 
 fn print_digests(sums: Sums) {

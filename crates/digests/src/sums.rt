@@ -3,9 +3,14 @@
 // Of the cascades before tidying, or of those after it.
 pub struct Side {
     pub gates: u64,
+    // At each global control value, all operators fitted.
     pub cost_at_0: u64,
     pub cost_at_1: u64,
     pub cost_at_2: u64,
+    // At 2, with D, E or N alone.
+    pub cost_with_d: u64,
+    pub cost_with_e: u64,
+    pub cost_with_n: u64,
     // Digests of all records, and of all tables computed.
     pub records: u32,
     pub tables: u32,
@@ -31,6 +36,9 @@ fn no_side() -> Side {
         cost_at_0: 0,
         cost_at_1: 0,
         cost_at_2: 0,
+        cost_with_d: 0,
+        cost_with_e: 0,
+        cost_with_n: 0,
         records: fingerprints::EMPTY,
         tables: fingerprints::EMPTY,
     }

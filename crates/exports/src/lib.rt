@@ -72,10 +72,10 @@ pub extern "C" fn tiles_invert(lines: u8, cascade: &[u8], room: &mut [u8]) -> Nu
 }
 
 #[no_mangle]
-pub extern "C" fn tiles_price(lines: u8, value: u8, cascade: &[u8]) -> Numbers
-    ensures { λ r. ⌜ r ≡ numbers (priceAnswer lines value (now (cascade .entry))) ⌝ }
+pub extern "C" fn tiles_price(lines: u8, value: u8, fitted: u8, cascade: &[u8]) -> Numbers
+    ensures { λ r. ⌜ r ≡ numbers (priceAnswer lines value fitted (now (cascade .entry))) ⌝ }
 {
-    answers::priced(cascades::price(lines, value, cascade))
+    answers::priced(cascades::price(lines, value, fitted, cascade))
 }
 
 #[no_mangle]
@@ -87,10 +87,16 @@ pub extern "C" fn tiles_tidy(lines: u8, cascade: &mut [u8]) -> Numbers
 }
 
 #[no_mangle]
-pub extern "C" fn tiles_choose(lines: u8, value: u8, first: &[u8], second: &[u8]) -> Numbers
-    ensures { λ r. ⌜ r ≡ numbers (chooseAnswer lines value (now (first .entry)) (now (second .entry))) ⌝ }
+pub extern "C" fn tiles_choose(
+    lines: u8,
+    value: u8,
+    fitted: u8,
+    first: &[u8],
+    second: &[u8],
+) -> Numbers
+    ensures { λ r. ⌜ r ≡ numbers (chooseAnswer lines value fitted (now (first .entry)) (now (second .entry))) ⌝ }
 {
-    answers::chosen(choice::choose(lines, value, first, second))
+    answers::chosen(choice::choose(lines, value, fitted, first, second))
 }
 
 #[no_mangle]

@@ -39,7 +39,7 @@ module _ (n : ℕ) (gs : List Gate) (six : n ≤ 6) (c : Cascade n gs) where
   pub listing-lines : length (listingText n gs) ≤ 31 * length gs + 31
   unfolding listingText
   listing-lines =
-      omega (arith, length-listing n (cascadePrice 2 gs) gs, gate-texts-most, width-le n 1 (omega arith) (omega arith), width-le (length gs) 4 (omega arith) (omega (arith, c .most)), width-le (cascadePrice 2 gs) 6 (omega arith) (omega (arith, cost-fits n 2 gs six c)))
+      omega (arith, length-listing n (cascadePrice 2 7 gs) gs, gate-texts-most, width-le n 1 (omega arith) (omega arith), width-le (length gs) 4 (omega arith) (omega (arith, c .most)), width-le (cascadePrice 2 7 gs) 6 (omega arith) (omega (arith, cost-fits n 2 7 gs six c)))
 
   -- so the listing of any cascade has at most 248,031 bytes
   pub listing-most : length (listingText n gs) ≤ 248031

@@ -28,9 +28,9 @@ headText n m cost = ascii "lines " ++ decimal n ++ ascii " gates " ++ decimal m 
 unfoldable pub listingWith : ℕ → ℕ → List Gate → List ℕ
 listingWith n cost gs = headText n (length gs) cost ++ gateTexts operatorName gs
 
--- the cost is for the global control value 2
+-- the cost is for the global control value 2 and all operators fitted
 unfoldable pub listingText : ℕ → List Gate → List ℕ
-listingText n gs = listingWith n (cascadePrice 2 gs) gs
+listingText n gs = listingWith n (cascadePrice 2 7 gs) gs
 
 -- 1 6 7 5: a room of so many bytes
 unfoldable pub listingAnswer : ℕ → List ℕ → ℕ → Answer

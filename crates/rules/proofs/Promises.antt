@@ -1,21 +1,21 @@
 -- What tidying promises, in plain sight: of every well-formed cascade on n lines, and at the end of every list of gates. Each is a sentence of demand
 -- 3. Assumes nothing.
 use mathlib.Core.Path.{_≡_, refl, _∙_}
-use mathlib.Core.Bool.{true, false}
+use mathlib.Core.Bool.{true, false, cond}
 use mathlib.Core.List.{List}
 use Prim.Native.Nat.{ℕ, _^_, _<_, _≤_}
 use native.Mathlib.Omega.{arith}
 use lib.ListN.{length}
 use Rattle.ranges.specs.Lists.{Each, total}
 use Rattle.ranges.proofs.Spans.{span-ext}
-use Rattle.ranges.proofs.Parts.{total-ext}
 use Rattle.gates.specs.declared.Gate.{Gate}
 use Rattle.gates.specs.Gates.{IsGate}
 use Rattle.cascades.specs.Cascades.{ran, tableFor, tableOf, Cascade}
-use Rattle.cascades.specs.Prices.{gatePrice, cascadePrice}
+use Rattle.cascades.specs.Boards.{isFitted}
+use Rattle.cascades.specs.Prices.{cascadePrice}
 use Rattle.rules.specs.Rules.{fits}
 use Rattle.rules.specs.Tidying.{gate, isOpen, ruled, gatesAndControls, tidied, Repetition}
-use Rattle.rules.proofs.Weights.{priceWith, price-plain}
+use Rattle.rules.proofs.Weights.{priceWith, price-fitted}
 use Rattle.rules.proofs.TidySteps.{ruled-stepped, stepped-gates, stepped-keeps, stepped-count, stepped-price, step-stepped}
 use Rattle.rules.proofs.Endings.{nothing-fits, steps-keep, stays, tidied-procedure}
 
@@ -52,12 +52,11 @@ module _ (n : ℕ) (gs : List Gate) (ok : Cascade n gs) where
   pub tidied-count : length (tidied gs .left) ≤ length gs
   tidied-count = steps-keep (λ l. length l ≤ length gs) (λ l u w. omega (arith, w, stepped-count (step-stepped l u))) gs (omega arith)
 
-  -- nor the cost, whatever the global control value
-  pub tidied-cost : (v : ℕ) → cascadePrice v (tidied gs .left) ≤ cascadePrice v gs
-  unfolding cascadePrice
-  tidied-cost v =
-      omega
-      (arith, tidied-price (λ o. 0) refl refl n v gs (ok .gates), total-ext (priceWith (λ o. 0) v) (gatePrice v) (price-plain v) gs, total-ext (priceWith (λ o. 0) v) (gatePrice v) (price-plain v) (tidied gs .left))
+  -- nor the cost, whatever the global control value and the fitted set
+  pub tidied-cost : (v s : ℕ) → cascadePrice v s (tidied gs .left) ≤ cascadePrice v s gs
+  tidied-cost v s =
+      rw (← price-fitted v s gs, ← price-fitted v s (tidied gs .left))
+      (tidied-price (λ o. cond (isFitted s o) 0 1) (unfold isFitted in refl) (unfold isFitted in refl) n v gs (ok .gates))
 
   -- the result is a cascade on the same lines
   pub tidied-cascade : Cascade n (tidied gs .left)

@@ -5,7 +5,6 @@ use mathlib.Core.Path.{_≡_, refl, sym, ap, _∙_}
 use mathlib.Core.Bool.{Bool, true, false, cond, _||_}
 use mathlib.Core.List.{List}
 use Prim.Native.Nat.{ℕ, zero, suc, _+_, _*_, _<_, _≤_}
-use native.Mathlib.Nat.{add-zero}
 use native.Mathlib.Omega.{arith}
 use lib.Dec.{eqb}
 use borrow.Author.Tests.{eqb-true, ne-eqb}
@@ -16,7 +15,8 @@ use Rattle.ranges.proofs.Sums.{sum-le}
 use Rattle.gates.specs.declared.Gate.{Gate}
 use Rattle.gates.specs.Gates.{control, inverseOp, inverse, IsGate}
 use Rattle.gates.proofs.Operators.{five}
-use Rattle.cascades.specs.Prices.{base, controlCount, others, gatePrice}
+use Rattle.cascades.specs.Boards.{isFitted}
+use Rattle.cascades.specs.Prices.{base, controlCount, others, plainPrice, gatePrice, cascadePrice}
 use Rattle.rules.specs.Rules.{lineOf, withControl, loosened, retuned}
 use Rattle.rules.proofs.Rules.{Reduction, reduction, third, third-lt, loosened-here, loosened-other, retuned-here, retuned-other, Ruled}
 use Rattle.rules.proofs.Rules.Ruled.{cancel, merge, reduce}
@@ -92,10 +92,10 @@ gates-and-controls-fall {g} {h} (reduce e) = let r = reduction g h e in omega (a
 unfoldable pub priceWith : (ℕ → ℕ) → ℕ → Gate → ℕ
 priceWith e v g = base (controlCount g) + 2 * others v g + e (g .operator)
 
--- document 01's price is the one where no operator costs anything
-pub price-plain : (v : ℕ) (g : Gate) → priceWith (λ o. 0) v g ≡ gatePrice v g
-unfolding priceWith gatePrice
-price-plain v g = add-zero (base (controlCount g) + 2 * others v g)
+-- with a fitted set s an operator costs 1 where it is not fitted
+pub price-fitted : (v s : ℕ) (gs : List Gate) → total (priceWith (λ o. cond (isFitted s o) 0 1) v) gs ≡ cascadePrice v s gs
+unfolding priceWith cascadePrice gatePrice plainPrice
+price-fitted v s gs = refl
 
 base-grows : (k : ℕ) → base k ≤ base (suc k)
 unfolding base

@@ -33,9 +33,9 @@ fn perform(
         3 => exports::tiles_check_cascade(lines, bytes),
         4 => exports::tiles_run(lines, bytes, case.pattern),
         6 => exports::tiles_invert(lines, bytes, room),
-        7 => exports::tiles_price(lines, case.value, bytes),
+        7 => exports::tiles_price(lines, case.value, case.fitted, bytes),
         8 => exports::tiles_tidy(lines, bytes),
-        9 => exports::tiles_choose(lines, case.value, bytes, more),
+        9 => exports::tiles_choose(lines, case.value, case.fitted, bytes, more),
         10 => exports::tiles_write_file(lines, bytes, more, room),
         11 => exports::tiles_read_file(bytes, room, note),
         12 => exports::tiles_opening(bytes),
@@ -56,8 +56,8 @@ fn digest_given(call: u32, table: &[u16], bytes: &[u8]) -> u32 {
 }
 
 // What cheaper hands back.
-fn digest_cheaper<'a>(lines: u8, value: u8, first: &'a [u8], second: &'a [u8]) -> u32 {
-    digest_bytes(EMPTY, choice::cheaper(lines, value, first, second))
+fn digest_cheaper<'a>(lines: u8, value: u8, fitted: u8, first: &'a [u8], second: &'a [u8]) -> u32 {
+    digest_bytes(EMPTY, choice::cheaper(lines, value, fitted, first, second))
 }
 
 // Performs the call and prints its line. In choose, which has no room, what cheaper hands back stands for it.
@@ -72,7 +72,7 @@ pub fn show_call(
     let call = case.call;
     let told = perform(case, table, bytes, more, room, note);
     let of_room = if call == 9 {
-        digest_cheaper(case.lines, case.value, bytes, more)
+        digest_cheaper(case.lines, case.value, case.fitted, bytes, more)
     } else {
         digest_bytes(EMPTY, room)
     };

@@ -1,4 +1,4 @@
-// The head of a case: 17 words, the last two of which are the record.
+// The head of a case: 18 words, the last two of which are the record.
 ghost use Prim.Native.Nat.{_+_, _*_, _<_, _≤_};
 ghost use lib.ListN.{length};
 
@@ -7,6 +7,7 @@ pub struct StoredCase {
     pub call: u32,
     pub lines: u8,
     pub value: u8,
+    pub fitted: u8,
     pub pattern: u16,
     pub times: u32,
     pub more_times: u32,
@@ -49,29 +50,38 @@ fn join_words(low: u32, high: u32) -> usize {
 
 // The case that a head tells, if each number is within its range; what it has of bytes and rooms is held to the buffers where they are.
 pub fn find_case(head: &[u8]) -> ParsedHead
-    requires { ⌜ 68 ≤ length (now head) ⌝ }
+    requires { ⌜ 72 ≤ length (now head) ⌝ }
 {
     let call = read_u32(head, 0);
     let lines = read_u32(head, 1);
     let value = read_u32(head, 2);
-    let pattern = read_u32(head, 3);
-    let fill = read_u32(head, 10);
-    if call < 1 || call > 17 || lines > 255 || value > 255 || pattern > 0xffff || fill > 255 {
+    let fitted = read_u32(head, 3);
+    let pattern = read_u32(head, 4);
+    let fill = read_u32(head, 11);
+    if call < 1
+        || call > 17
+        || lines > 255
+        || value > 255
+        || fitted > 255
+        || pattern > 0xffff
+        || fill > 255
+    {
         return ParsedHead::Nothing;
     }
     ParsedHead::Case(StoredCase {
         call,
         lines: lines as u8,
         value: value as u8,
+        fitted: fitted as u8,
         pattern: pattern as u16,
-        times: read_u32(head, 4),
-        more_times: read_u32(head, 5),
-        stored: read_u32(head, 6),
-        more_stored: read_u32(head, 7),
-        room: read_u32(head, 8) as usize,
-        note_room: read_u32(head, 9) as usize,
+        times: read_u32(head, 5),
+        more_times: read_u32(head, 6),
+        stored: read_u32(head, 7),
+        more_stored: read_u32(head, 8),
+        room: read_u32(head, 9) as usize,
+        note_room: read_u32(head, 10) as usize,
         fill: fill as u8,
-        place: join_words(read_u32(head, 11), read_u32(head, 12)),
-        end: join_words(read_u32(head, 13), read_u32(head, 14)),
+        place: join_words(read_u32(head, 12), read_u32(head, 13)),
+        end: join_words(read_u32(head, 14), read_u32(head, 15)),
     })
 }

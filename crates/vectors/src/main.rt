@@ -9,14 +9,14 @@ use heads::ParsedHead;
 
 // Shows the next case; false where the input has none.
 fn show_next() -> bool {
-    let mut head = [0u8; 68];
-    if io::read_full(0, &mut head) < 68 {
+    let mut head = [0u8; 72];
+    if io::read_full(0, &mut head) < 72 {
         return false;
     }
     let ParsedHead::Case(case) = heads::find_case(&head) else {
         return false;
     };
-    given::show_case(case, &head[60..])
+    given::show_case(case, &head[64..])
 }
 
 // Shows so many cases, or as many as the input has before something that is none.

@@ -8,6 +8,9 @@ use crate::vectors::Case;
 
 pub(super) const NO_LINES: [u8; 4] = [0, 7, 8, 255];
 
+/// The set of D, E and N.
+pub(super) const ALL_FITTED: u8 = 7;
+
 /// The vector of document 003.
 pub(super) const VECTOR_OF_003: [u16; 9] = [5, 6, 1, 7, 2, 3, 8, 0, 4];
 
@@ -102,9 +105,10 @@ pub(super) fn on_long_cascade(
         Call::WriteNames => 4 * length,
         _ => 0,
     };
-    let note = if call == Call::WriteFile { b"note".to_vec() } else { vec![] };
+    let more_stored = if call == Call::WriteFile { b"note".to_vec() } else { vec![] };
+    let fitted = if matches!(call, Call::Price | Call::Choose) { ALL_FITTED } else { 0 };
     let (value, stored) = (2, stored.to_vec());
-    Case { lines, value, record, times, stored, more_stored: note, room, ..Case::new(call) }
+    Case { lines, value, fitted, record, times, stored, more_stored, room, ..Case::new(call) }
 }
 
 pub(super) fn on_cascade(call: Call, lines: u8, cascade: &[u8]) -> Case {

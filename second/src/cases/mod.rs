@@ -1,8 +1,10 @@
 //! The cases that every other program has to answer alike: each refusal of each
 //! call from both sides of its edge, the order of refusals, the documents'
-//! examples and printed tables, damaged and cut files, made-up readers, and some
-//! drawn tables and cascades. A part stands for each family of calls.
+//! examples and printed tables, damaged and cut files, made-up readers, boards with
+//! any operators fitted, and some drawn tables and cascades. A part stands for each
+//! family of calls. A new one goes to the end, so that the others keep their fills.
 
+mod boards;
 mod cascades;
 mod choices;
 mod files;
@@ -21,7 +23,7 @@ use crate::vectors::Case;
 
 /// The cases, always the same and in the same order.
 pub fn cases() -> Vec<Case> {
-    let parts: [fn() -> Vec<Case>; 26] = [
+    let parts: [fn() -> Vec<Case>; 32] = [
         tables::tables,
         tables::rooms_for_synthesis,
         cascades::lines_of_cascades,
@@ -48,6 +50,12 @@ pub fn cases() -> Vec<Case> {
         names::rooms_for_lists,
         names::written_lists,
         names::lists_read_back,
+        boards::every_set,
+        boards::every_operator,
+        boards::refused_sets,
+        boards::dearest_gates,
+        boards::choices_by_set,
+        boards::drawn_on_boards,
     ];
     let mut cases: Vec<_> = parts.into_iter().flat_map(|part| part()).collect();
     for (place, case) in cases.iter_mut().enumerate() {

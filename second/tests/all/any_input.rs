@@ -75,6 +75,7 @@ fn nothing_panics_and_nothing_else_changes() {
         let (one, other) = (some_bytes(&mut numbers), some_bytes(&mut numbers));
         let lines = some_lines(&mut numbers);
         let value = numbers.below(5) as u8;
+        let fitted = numbers.below(10) as u8;
         let room = numbers.below(300);
         let pattern = numbers.next() as u16 >> numbers.below(16);
         let (place, end) = (some_place(&mut numbers), some_place(&mut numbers));
@@ -86,9 +87,9 @@ fn nothing_panics_and_nothing_else_changes() {
             run(lines, &one, pattern).is_ok(),
             tabulate(lines, &one, room).is_ok(),
             invert(lines, &one, room).is_ok(),
-            price(lines, value, &one).is_ok(),
+            price(lines, value, fitted, &one).is_ok(),
             tidy(lines, &one).is_ok(),
-            choose(lines, value, &one, &other).is_ok(),
+            choose(lines, value, fitted, &one, &other).is_ok(),
             write_file(lines, &one, &other, room).is_ok(),
             read_file(&one, room, numbers.below(20)).is_ok(),
             opening(&one).is_ok(),
@@ -100,7 +101,7 @@ fn nothing_panics_and_nothing_else_changes() {
             write_names(lines, &one, room).is_ok(),
         ];
         accepted.iter_mut().zip(results).for_each(|(count, result)| *count += result as u32);
-        let part = cheaper(lines, value, &one, &other);
+        let part = cheaper(lines, value, fitted, &one, &other);
         assert!(part.is_empty() || part == one || part == other);
         assert!(Reader { file: &one, lines, place, end }.next().is_ok() == results[10]);
         assert_eq!((one, other), (kept_one, kept_other));

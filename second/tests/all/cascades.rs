@@ -78,7 +78,10 @@ fn random_cascades_run_tabulate_invert_and_price() {
             assert_eq!(run(n, &records, pattern as u16), Ok(table[pattern]));
         }
         for value in 0..3 {
-            assert_eq!(price(n, value, &records), Ok(plain::price(value, &gates)));
+            for fitted in 1..=7 {
+                let cost = plain::cost(value, fitted, &gates);
+                assert_eq!(price(n, value, fitted, &records), Ok(cost));
+            }
         }
 
         let inverse = invert(n, &records, records.len()).unwrap();
@@ -114,7 +117,9 @@ fn the_empty_cascade_is_the_identity() {
     for lines in 1..=6 {
         assert_eq!(computed(lines as u8, &[]), identity(lines));
         for value in 0..3 {
-            assert_eq!(price(lines as u8, value, &[]), Ok(0));
+            for fitted in 1..=7 {
+                assert_eq!(price(lines as u8, value, fitted, &[]), Ok(0));
+            }
         }
     }
 }

@@ -6,13 +6,13 @@ use second::cases::gates;
 use second::choice::{cheaper, choose, FIRST, SECOND};
 
 use crate::calls::{computed, synthesized, tidy};
-use crate::helpers::refused;
+use crate::helpers::{refused, ALL_FITTED};
 use crate::plain;
 
 /// Chooses, and sees that `cheaper` hands back that cascade itself.
-fn chosen(lines: u8, value: u8, first: &[u8], second: &[u8]) -> u8 {
-    let answer = choose(lines, value, first, second).expect("equal tables");
-    let part = cheaper(lines, value, first, second);
+fn chosen(lines: u8, value: u8, fitted: u8, first: &[u8], second: &[u8]) -> u8 {
+    let answer = choose(lines, value, fitted, first, second).expect("equal tables");
+    let part = cheaper(lines, value, fitted, first, second);
     let expected = if answer == FIRST { first } else { second };
     assert!(std::ptr::eq(part, expected), "the lent cascade itself");
     answer
@@ -27,34 +27,34 @@ fn it_answers_1_or_2() {
 fn what_costs_less_then_fewer_gates_then_the_first() {
     // Twice the same swap: one reads off the global value, the other at it.
     let (dear, cheap) = (gates("D x0 x1=0, D x0 x1=0"), gates("D x0 x1=2, D x0 x1=2"));
-    assert_eq!(chosen(2, 2, &dear, &cheap), 2);
-    assert_eq!(chosen(2, 2, &cheap, &dear), 1);
-    assert_eq!(chosen(2, 0, &dear, &cheap), 1);
-    assert_eq!(chosen(2, 0, &cheap, &dear), 2);
+    assert_eq!(chosen(2, 2, ALL_FITTED, &dear, &cheap), 2);
+    assert_eq!(chosen(2, 2, ALL_FITTED, &cheap, &dear), 1);
+    assert_eq!(chosen(2, 0, ALL_FITTED, &dear, &cheap), 1);
+    assert_eq!(chosen(2, 0, ALL_FITTED, &cheap, &dear), 2);
     // At value 1 both cost 6 with two gates: the first.
-    assert_eq!(chosen(2, 1, &dear, &cheap), 1);
-    assert_eq!(chosen(2, 1, &cheap, &dear), 1);
+    assert_eq!(chosen(2, 1, ALL_FITTED, &dear, &cheap), 1);
+    assert_eq!(chosen(2, 1, ALL_FITTED, &cheap, &dear), 1);
 
     // Equal cost, fewer gates: ten uncontrolled ones against two with two controls
     // at the value.
     let many = gates("D x0, D x0, D x0, D x0, D x0, D x0, D x0, D x0, D x0, D x0");
     let few = gates("D x0 x1=1 x2=1, D x0 x1=1 x2=1");
-    assert_eq!((price(3, 1, &many), price(3, 1, &few)), (Ok(10), Ok(10)));
-    assert_eq!(chosen(3, 1, &many, &few), 2);
-    assert_eq!(chosen(3, 1, &few, &many), 1);
+    assert_eq!((price(3, 1, ALL_FITTED, &many), price(3, 1, ALL_FITTED, &few)), (Ok(10), Ok(10)));
+    assert_eq!(chosen(3, 1, ALL_FITTED, &many, &few), 2);
+    assert_eq!(chosen(3, 1, ALL_FITTED, &few, &many), 1);
     // Cost comes before gates: at value 0 the two gates cost 18.
-    assert_eq!(chosen(3, 0, &many, &few), 1);
-    assert_eq!(chosen(3, 0, &few, &many), 2);
+    assert_eq!(chosen(3, 0, ALL_FITTED, &many, &few), 1);
+    assert_eq!(chosen(3, 0, ALL_FITTED, &few, &many), 2);
 }
 
 #[test]
 fn the_empty_cascade() {
     let nothing = gates("N x0, N x0");
-    assert_eq!(chosen(1, 0, &[], &nothing), 1);
-    assert_eq!(chosen(1, 0, &nothing, &[]), 2);
-    assert_eq!(chosen(1, 0, &[], &[]), 1);
+    assert_eq!(chosen(1, 0, ALL_FITTED, &[], &nothing), 1);
+    assert_eq!(chosen(1, 0, ALL_FITTED, &nothing, &[]), 2);
+    assert_eq!(chosen(1, 0, ALL_FITTED, &[], &[]), 1);
     // The empty part of a larger buffer is that part, not any empty one.
-    let part = cheaper(1, 0, &nothing, &nothing[16..]);
+    let part = cheaper(1, 0, ALL_FITTED, &nothing, &nothing[16..]);
     assert!(part.is_empty() && std::ptr::eq(part.as_ptr(), nothing[16..].as_ptr()));
 }
 
@@ -76,18 +76,20 @@ fn a_difference_is_told_at_the_first_input() {
         let (one, other) = (computed(n, &first), computed(n, &second));
         match one.iter().zip(&other).position(|(a, b)| a != b) {
             Some(input) => {
-                assert_eq!(choose(n, 0, &first, &second), refused(11, input));
-                assert_eq!(choose(n, 0, &second, &first), refused(11, input));
+                assert_eq!(choose(n, 0, ALL_FITTED, &first, &second), refused(11, input));
+                assert_eq!(choose(n, 0, ALL_FITTED, &second, &first), refused(11, input));
             }
             None => {
                 equal += 1;
                 for value in 0..3 {
-                    let worth = |records: &[u8]| {
-                        let gates = plain::gates(lines, records);
-                        (plain::price(value, &gates), gates.len())
-                    };
-                    let expected = if worth(&second) < worth(&first) { 2 } else { 1 };
-                    assert_eq!(chosen(n, value, &first, &second), expected);
+                    for fitted in 1..=7 {
+                        let worth = |records: &[u8]| {
+                            let gates = plain::gates(lines, records);
+                            (plain::cost(value, fitted, &gates), gates.len())
+                        };
+                        let expected = if worth(&second) < worth(&first) { 2 } else { 1 };
+                        assert_eq!(chosen(n, value, fitted, &first, &second), expected);
+                    }
                 }
             }
         }
@@ -104,7 +106,7 @@ fn a_difference_in_the_last_input_alone_is_not_to_be_had() {
         let mut table: Vec<u16> = (0..size).collect();
         table.swap(size as usize - 1, size as usize - 2);
         let gates = synthesized(lines, &table);
-        assert_eq!(choose(lines, 2, &gates, &[]), refused(11, size as usize - 2));
-        assert_eq!(choose(lines, 2, &[], &gates), refused(11, size as usize - 2));
+        assert_eq!(choose(lines, 2, ALL_FITTED, &gates, &[]), refused(11, size as usize - 2));
+        assert_eq!(choose(lines, 2, ALL_FITTED, &[], &gates), refused(11, size as usize - 2));
     }
 }

@@ -1,4 +1,4 @@
-//! The worked examples of document 01.
+//! The worked examples of document 01. They read as with all operators fitted.
 
 use second::cascade::{check, price, run};
 use second::cases::gates;
@@ -6,7 +6,7 @@ use second::gate::Operator;
 use second::tidying::Tidied;
 
 use crate::calls::{computed, listing, synthesize, synthesized, tidy};
-use crate::helpers::{identity, refused, BOUND};
+use crate::helpers::{identity, refused, ALL_FITTED, BOUND};
 
 const VECTOR_OF_003: [u16; 9] = [5, 6, 1, 7, 2, 3, 8, 0, 4];
 
@@ -68,7 +68,7 @@ fn the_room_asked_is_the_printed_bound() {
 #[test]
 fn p1_the_identity_takes_no_gates() {
     assert_eq!(synthesized(1, &[0, 1, 2]), []);
-    assert_eq!(price(1, 2, &[]), Ok(0));
+    assert_eq!(price(1, 2, ALL_FITTED, &[]), Ok(0));
     assert_eq!(second::sheet::text(&[1, 0, 0, 1, 0, 2, 0]), b"lines 1 gates 0 cost 0\n");
 }
 
@@ -76,7 +76,7 @@ fn p1_the_identity_takes_no_gates() {
 fn p2_the_bound_on_one_line() {
     let found = synthesized(1, &[1, 2, 0]);
     assert_eq!(found, gates("D x0, E x0"));
-    assert_eq!(price(1, 2, &found), Ok(2));
+    assert_eq!(price(1, 2, ALL_FITTED, &found), Ok(2));
     assert_eq!(found.len(), 8 * BOUND[1]);
     assert_eq!(listing(1, &found, 100), Ok(b"lines 1 gates 2 cost 2\nD x0\nE x0\n".to_vec()));
 }
@@ -112,12 +112,12 @@ fn p8_merge_and_p9_cancel() {
 #[test]
 fn p10_and_p11_control_reduction() {
     tidies(2, "C1 x0 x1=0, C1 x0 x1=1", "C1 x0, C2 x0 x1=2", 1);
-    assert_eq!(price(2, 2, &gates("C1 x0 x1=0, C1 x0 x1=1")), Ok(6));
-    assert_eq!(price(2, 2, &gates("C1 x0, C2 x0 x1=2")), Ok(2));
+    assert_eq!(price(2, 2, ALL_FITTED, &gates("C1 x0 x1=0, C1 x0 x1=1")), Ok(6));
+    assert_eq!(price(2, 2, ALL_FITTED, &gates("C1 x0, C2 x0 x1=2")), Ok(2));
 
     tidies(2, "D x0 x1=0, D x0 x1=2", "D x0, D x0 x1=1", 1);
-    assert_eq!(price(2, 2, &gates("D x0 x1=0, D x0 x1=2")), Ok(4));
-    assert_eq!(price(2, 2, &gates("D x0, D x0 x1=1")), Ok(4));
+    assert_eq!(price(2, 2, ALL_FITTED, &gates("D x0 x1=0, D x0 x1=2")), Ok(4));
+    assert_eq!(price(2, 2, ALL_FITTED, &gates("D x0, D x0 x1=1")), Ok(4));
 }
 
 #[test]
@@ -151,15 +151,15 @@ fn base_prices() {
     let gate = ["C1 x5", " x0=1", " x1=1", " x2=1", " x3=1", " x4=1"];
     for (controls, price_asked) in [1, 1, 5, 15, 35, 75].into_iter().enumerate() {
         let gate = gates(&gate[..=controls].concat());
-        assert_eq!(price(6, 1, &gate), Ok(price_asked));
+        assert_eq!(price(6, 1, ALL_FITTED, &gate), Ok(price_asked));
         // And every control off it.
-        assert_eq!(price(6, 0, &gate), Ok(price_asked + 2 * controls as u32));
-        assert_eq!(price(6, 2, &gate), Ok(price_asked + 2 * controls as u32));
+        assert_eq!(price(6, 0, ALL_FITTED, &gate), Ok(price_asked + 2 * controls as u32));
+        assert_eq!(price(6, 2, ALL_FITTED, &gate), Ok(price_asked + 2 * controls as u32));
     }
-    assert_eq!(price(6, 2, &gates("C1 x5 x0=0 x1=1 x2=2")), Ok(15 + 4));
+    assert_eq!(price(6, 2, ALL_FITTED, &gates("C1 x5 x0=0 x1=1 x2=2")), Ok(15 + 4));
     // The dearest cascade.
     let dearest = gates("D x0 x1=0 x2=0 x3=0 x4=0 x5=0").repeat(8_000);
-    assert_eq!(price(6, 2, &dearest), Ok(680_000));
+    assert_eq!(price(6, 2, ALL_FITTED, &dearest), Ok(680_000));
 }
 
 mod known_ways_to_get_it_wrong {

@@ -13,5 +13,8 @@ pub fn identity(lines: usize) -> Vec<u16> {
 /// n·3^n − (3^n − 1)/2, as document 01 prints it.
 pub const BOUND: [usize; 7] = [0, 2, 14, 68, 284, 1_094, 4_010];
 
+/// D, E and N.
+pub const ALL_FITTED: u8 = 1 + 2 + 4;
+
 /// Numbers that no board has lines.
 pub const NO_LINES: [u8; 6] = [0, 7, 8, 100, 254, 255];

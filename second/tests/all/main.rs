@@ -1,13 +1,14 @@
 //! All tests that look at the library from outside.
 //!
 //! `plain` is document 01 read word for word, with no thought of speed; the
-//! library is compared with it wherever the document gives no figures. `calls`
+//! library is compared with it wherever the documents give no figures. `calls`
 //! lends each call rooms full of marks and sees that nothing else was touched.
 
 // Loops over lines and values read best as the documents count.
 #![allow(clippy::needless_range_loop)]
 
 mod any_input;
+mod boards;
 mod calls;
 mod cascades;
 mod choice;

@@ -1,4 +1,5 @@
-//! Document 01 word for word: numbers, lists and loops, nothing clever.
+//! Document 01 word for word, and order 2 of document 02: numbers, lists and loops,
+//! nothing clever.
 
 #[derive(Clone, Copy, Debug, PartialEq, Eq)]
 pub enum Op {
@@ -159,6 +160,21 @@ pub fn check_cascade(lines: usize, cascade: &[u8]) -> Result<Vec<Gate>, (u8, usi
     Ok(gates)
 }
 
+// The refusal card, for boards: 1, 10, 13.
+
+pub fn check_board(lines: u8, value: u8, fitted: u8) -> Result<(), (u8, usize)> {
+    if !(1..=6).contains(&lines) {
+        return Err((1, 0));
+    }
+    if value > 2 {
+        return Err((10, 0));
+    }
+    if !(1..=1 + 2 + 4).contains(&fitted) {
+        return Err((13, 0));
+    }
+    Ok(())
+}
+
 // The refusal card, for tables: 1, 2, 3, 4.
 
 pub fn check_table(lines: u8, table: &[u16]) -> Result<(), (u8, usize)> {
@@ -218,14 +234,57 @@ pub fn base_price(controls: usize) -> u32 {
     }
 }
 
-pub fn price(value: u8, gates: &[Gate]) -> u32 {
+/// The sums of 1 for D, 2 for E and 4 for N in which an operator is.
+pub fn is_fitted(fitted: u8, op: Op) -> bool {
+    match op {
+        C1 | C2 => true,
+        D => [1, 1 + 2, 1 + 4, 1 + 2 + 4].contains(&fitted),
+        E => [2, 1 + 2, 2 + 4, 1 + 2 + 4].contains(&fitted),
+        N => [4, 1 + 4, 2 + 4, 1 + 2 + 4].contains(&fitted),
+    }
+}
+
+pub fn cost(value: u8, fitted: u8, gates: &[Gate]) -> u32 {
     let mut cost = 0;
     for gate in gates {
         let values: Vec<u8> = gate.controls.iter().flatten().copied().collect();
         cost += base_price(values.len());
         cost += 2 * values.iter().filter(|&&v| v != value).count() as u32;
+        if !is_fitted(fitted, gate.op) {
+            cost += 1;
+        }
     }
     cost
+}
+
+pub fn price(lines: u8, value: u8, fitted: u8, cascade: &[u8]) -> Result<u32, (u8, usize)> {
+    check_board(lines, value, fitted)?;
+    Ok(cost(value, fitted, &check_cascade(lines as usize, cascade)?))
+}
+
+// The cheaper of two.
+
+pub fn choose(
+    lines: u8,
+    value: u8,
+    fitted: u8,
+    first: &[u8],
+    second: &[u8],
+) -> Result<u8, (u8, usize)> {
+    check_board(lines, value, fitted)?;
+    let first = check_cascade(lines as usize, first)?;
+    let second = check_cascade(lines as usize, second)?;
+    let tables = [&first, &second].map(|gates| tabulate(lines as usize, gates));
+    for input in 0..tables[0].len() {
+        if tables[0][input] != tables[1][input] {
+            return Err((11, input));
+        }
+    }
+    let costs = [&first, &second].map(|gates| cost(value, fitted, gates));
+    if costs[0] != costs[1] {
+        return Ok(if costs[0] < costs[1] { 1 } else { 2 });
+    }
+    Ok(if first.len() <= second.len() { 1 } else { 2 })
 }
 
 // Tidying.
@@ -331,7 +390,7 @@ pub fn has_fitting_open_pair(gates: &[Gate]) -> bool {
 // The listing.
 
 pub fn listing(lines: usize, gates: &[Gate]) -> String {
-    let cost = price(2, gates);
+    let cost = cost(2, 1 + 2 + 4, gates);
     let mut text = format!("lines {lines} gates {} cost {cost}\n", gates.len());
     for gate in gates {
         text += &format!("{:?} x{}", gate.op, gate.target);

@@ -7,7 +7,7 @@ use second::calls::Call;
 use second::cases::{cases, gates};
 use second::vectors::{Case, Digest};
 
-use crate::helpers::identity;
+use crate::helpers::{identity, ALL_FITTED};
 
 /// The listed cases, each with the line that is stored for it.
 fn stored() -> &'static Vec<(Case, String)> {
@@ -95,7 +95,8 @@ fn identities_1_to_5_of_000() {
             // gate is the second.
             let pair = gates(&[*inner, *outer].map(bare).join(", "));
             let words = printed(Call::Choose, 1, &pair, |case| {
-                case.value == 0 && case.more_stored == gates(&bare(single))
+                (case.value, case.fitted) == (0, ALL_FITTED)
+                    && case.more_stored == gates(&bare(single))
             });
             assert_eq!(value(&words, 0), 2);
         }
@@ -145,16 +146,41 @@ fn cost_steps_of_000_and_001() {
         for (at, global) in [0, 1, 2].iter().flat_map(|at| [0, 1, 2].map(|global| (*at, global))) {
             let text: String = (0..controls).map(|line| format!(" x{line}={at}")).collect();
             let cascade = gates(&format!("N x5{text}"));
-            let words = printed(Call::Price, 6, &cascade, |case| case.value == global);
+            let words = printed(Call::Price, 6, &cascade, |case| {
+                (case.value, case.fitted) == (global, ALL_FITTED)
+            });
             // 2 more for each control that has not the global value.
             let more = if at == global { 0 } else { 2 * controls };
             assert_eq!(value(&words, 0), base + more);
         }
     }
-    // Every operator is available and costs the same.
+    // Where every operator is available it costs the same.
     for operator in ["C1", "C2", "N", "D", "E"] {
-        let words = printed(Call::Price, 6, &gates(&format!("{operator} x1 x5=0")), |_| true);
+        let cascade = gates(&format!("{operator} x1 x5=0"));
+        let words = printed(Call::Price, 6, &cascade, |case| case.fitted == ALL_FITTED);
         assert_eq!(value(&words, 0), 1);
+    }
+}
+
+/// 001's cost model: a gate type that isn't there is made of a pair, for 1 more.
+#[test]
+fn unavailable_gates_of_001() {
+    let available = ["D", "E", "DE", "N", "DN", "EN", "DEN"];
+    for (number, operator) in ["C1", "C2", "N", "D", "E"].into_iter().enumerate() {
+        for (fitted, swaps) in (1..).zip(available) {
+            let more = !(operator.starts_with('C') || swaps.contains(operator)) as usize;
+            for (controls, base) in [1, 1, 5, 15, 35, 75].into_iter().enumerate() {
+                let at = |line| (line + number) % 3;
+                let text: String =
+                    (0..controls).map(|line| format!(" x{line}={}", at(line))).collect();
+                let cascade = gates(&format!("{operator} x5{text}"));
+                let others = (0..controls).filter(|&line| at(line) != fitted as usize % 3).count();
+                let words = printed(Call::Price, 6, &cascade, |case| {
+                    (case.value, case.fitted) == (fitted % 3, fitted)
+                });
+                assert_eq!(value(&words, 0), base + 2 * others + more);
+            }
+        }
     }
 }
 

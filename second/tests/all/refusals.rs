@@ -9,7 +9,7 @@ use second::choice::{cheaper, choose};
 use second::table::check_table;
 
 use crate::calls::{invert, listing, synthesize, tabulate, tidy, write_file, write_names};
-use crate::helpers::{identity, refused, BOUND, NO_LINES};
+use crate::helpers::{identity, refused, ALL_FITTED, BOUND, NO_LINES};
 use crate::plain;
 
 /// All calls on one cascade with ample room: what each answers, without its
@@ -21,10 +21,10 @@ fn all_on_one_cascade(lines: u8, bytes: &[u8]) -> Vec<Result<(), Refusal>> {
         run(lines, bytes, 0).map(drop),
         tabulate(lines, bytes, 729).map(drop),
         invert(lines, bytes, 70_000).map(drop),
-        price(lines, 2, bytes).map(drop),
+        price(lines, 2, ALL_FITTED, bytes).map(drop),
         tidy(lines, bytes).map(drop),
-        choose(lines, 2, bytes, empty_or_same).map(drop),
-        choose(lines, 2, empty_or_same, bytes).map(drop),
+        choose(lines, 2, ALL_FITTED, bytes, empty_or_same).map(drop),
+        choose(lines, 2, ALL_FITTED, empty_or_same, bytes).map(drop),
         write_file(lines, bytes, b"note", 70_000).map(drop),
         listing(lines, bytes, 300_000).map(drop),
         write_names(lines, bytes, 300_000).map(drop),
@@ -49,8 +49,8 @@ fn one_lines_from_1_to_6() {
         all_answer(lines, &[], refused(1, 0));
         // Whatever else is wrong.
         all_answer(lines, &[0; 13], refused(1, 0));
-        assert_eq!(price(lines, 3, &[0; 13]), refused(1, 0));
-        assert_eq!(choose(lines, 3, &[0; 13], &[1]), refused(1, 0));
+        assert_eq!(price(lines, 3, 0, &[0; 13]), refused(1, 0));
+        assert_eq!(choose(lines, 3, 0, &[0; 13], &[1]), refused(1, 0));
         assert_eq!(run(lines, &[], 729), refused(1, 0));
         assert_eq!(tabulate(lines, &[], 0), refused(1, 0));
         assert_eq!(write_file(lines, &[], &[0; 1_025], 0), refused(1, 0));
@@ -283,16 +283,43 @@ fn nine_the_note_has_at_most_1024_bytes() {
 fn ten_the_global_value_is_at_most_2() {
     let gates = gates("D x0 x1=2");
     for value in 0..=2 {
-        assert!(price(2, value, &gates).is_ok());
-        assert!(choose(2, value, &gates, &gates).is_ok());
+        assert!(price(2, value, ALL_FITTED, &gates).is_ok());
+        assert!(choose(2, value, ALL_FITTED, &gates, &gates).is_ok());
     }
     for value in [3, 4, 255] {
-        // 10 comes before 6, 7 and 11.
+        // 10 comes before 13, 6, 7 and 11.
         for bytes in [&gates[..], &[], &gates[..7], &[0; 8]] {
-            assert_eq!(price(2, value, bytes), refused(10, 0));
-            assert_eq!(choose(2, value, bytes, bytes), refused(10, 0));
-            assert_eq!(choose(2, value, &[], bytes), refused(10, 0));
+            for fitted in [ALL_FITTED, 0, 8] {
+                assert_eq!(price(2, value, fitted, bytes), refused(10, 0));
+                assert_eq!(choose(2, value, fitted, bytes, bytes), refused(10, 0));
+                assert_eq!(choose(2, value, fitted, &[], bytes), refused(10, 0));
+            }
         }
+    }
+}
+
+#[test]
+fn thirteen_the_set_has_one_of_d_e_n_and_nothing_else() {
+    let gates = gates("D x0 x1=2");
+    for fitted in 0..=255 {
+        let asked = if (1..=7).contains(&fitted) { Ok(()) } else { refused(13, 0) };
+        for value in 0..=2 {
+            assert_eq!(price(2, value, fitted, &gates).map(drop), asked, "{fitted}");
+            assert_eq!(choose(2, value, fitted, &gates, &gates).map(drop), asked, "{fitted}");
+        }
+    }
+    for fitted in [0, 8, 255] {
+        // 13 comes before 6, 7 and 11, whichever cascade they are of.
+        for bytes in [&gates[..], &[], &gates[..7], &[0; 8]] {
+            assert_eq!(price(2, 0, fitted, bytes), refused(13, 0));
+            assert_eq!(choose(2, 0, fitted, bytes, &gates), refused(13, 0));
+            assert_eq!(choose(2, 0, fitted, &gates, bytes), refused(13, 0));
+        }
+        // 1 and 10 come before 13.
+        assert_eq!(price(7, 0, fitted, &gates), refused(1, 0));
+        assert_eq!(choose(7, 0, fitted, &gates, &gates), refused(1, 0));
+        assert_eq!(price(2, 3, fitted, &gates), refused(10, 0));
+        assert_eq!(choose(2, 3, fitted, &gates, &gates), refused(10, 0));
     }
 }
 
@@ -301,34 +328,39 @@ fn eleven_and_the_order_of_the_two_cascades() {
     let (good, other) = (gates("D x0, N x1 x0=2"), gates("D x0"));
     let odd = &good[..9];
     let bad = [&other[..], &[0; 8], &other[..]].concat();
-    assert_eq!(choose(2, 0, &good, &good), Ok(1));
+    assert_eq!(choose(2, 0, ALL_FITTED, &good, &good), Ok(1));
     // The first input on which they differ: x0 is 2 after D where it was 1.
-    assert_eq!(choose(2, 0, &good, &other), refused(11, 1));
-    assert_eq!(choose(2, 0, &other, &good), refused(11, 1));
+    assert_eq!(choose(2, 0, ALL_FITTED, &good, &other), refused(11, 1));
+    assert_eq!(choose(2, 0, ALL_FITTED, &other, &good), refused(11, 1));
 
-    assert_eq!(choose(2, 0, odd, &good), refused(6, 0));
-    assert_eq!(choose(2, 0, &bad, &good), refused(7, 1));
-    assert_eq!(choose(2, 0, &good, odd), refused(6, 0));
-    assert_eq!(choose(2, 0, &good, &bad), refused(7, 1));
-    assert_eq!(choose(2, 0, &bad, odd), refused(7, 1), "both for the first, then the second");
-    assert_eq!(choose(2, 0, odd, &bad), refused(6, 0));
-    assert_eq!(choose(2, 0, &other, &bad), refused(7, 1), "7 before 11");
+    assert_eq!(choose(2, 0, ALL_FITTED, odd, &good), refused(6, 0));
+    assert_eq!(choose(2, 0, ALL_FITTED, &bad, &good), refused(7, 1));
+    assert_eq!(choose(2, 0, ALL_FITTED, &good, odd), refused(6, 0));
+    assert_eq!(choose(2, 0, ALL_FITTED, &good, &bad), refused(7, 1));
+    assert_eq!(
+        choose(2, 0, ALL_FITTED, &bad, odd),
+        refused(7, 1),
+        "both for the first, then the second"
+    );
+    assert_eq!(choose(2, 0, ALL_FITTED, odd, &bad), refused(6, 0));
+    assert_eq!(choose(2, 0, ALL_FITTED, &other, &bad), refused(7, 1), "7 before 11");
 }
 
 #[test]
 fn a_refusal_hands_back_the_first_cascades_empty_part() {
     let (first, second) = (gates("D x0, N x1 x0=2"), gates("D x0"));
-    let refusals: [(u8, u8, &[u8], &[u8]); 6] = [
-        (0, 0, &first, &first),
-        (2, 3, &first, &first),
-        (2, 0, &first[..9], &second),
-        (2, 0, &first, &second[..7]),
-        (2, 0, &first, &[0; 8]),
-        (2, 0, &first, &second),
+    let refusals = [
+        (0, 0, 7, &first[..], &first[..]),
+        (2, 3, 7, &first, &first),
+        (2, 0, 8, &first, &first),
+        (2, 0, 7, &first[..9], &second),
+        (2, 0, 7, &first, &second[..7]),
+        (2, 0, 7, &first, &[0; 8]),
+        (2, 0, 7, &first, &second),
     ];
-    for (lines, value, one, other) in refusals {
-        assert!(choose(lines, value, one, other).is_err());
-        let part = cheaper(lines, value, one, other);
+    for (lines, value, fitted, one, other) in refusals {
+        assert!(choose(lines, value, fitted, one, other).is_err());
+        let part = cheaper(lines, value, fitted, one, other);
         assert!(part.is_empty() && std::ptr::eq(part.as_ptr(), one.as_ptr()));
     }
 }

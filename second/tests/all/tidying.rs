@@ -27,7 +27,10 @@ fn keeps_the_demands(lines: usize, records: &[u8], left: &[u8], steps: usize) {
     assert_eq!(computed(n, records), computed(n, left));
     assert!(left.len() <= records.len());
     for value in 0..3 {
-        assert!(price(n, value, left).unwrap() <= price(n, value, records).unwrap());
+        for fitted in 1..=7 {
+            let cost = |records| price(n, value, fitted, records).unwrap();
+            assert!(cost(left) <= cost(records), "at {value} with {fitted}");
+        }
     }
     let controls = plain::gates(lines, records)
         .iter()

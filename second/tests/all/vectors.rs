@@ -40,6 +40,7 @@ fn a_case_byte_for_byte() {
     let case = Case {
         lines: 2,
         value: 1,
+        fitted: 5,
         pattern: 0x0102,
         times: 3,
         more_times: 4,
@@ -56,7 +57,7 @@ fn a_case_byte_for_byte() {
     #[rustfmt::skip]
     let bytes = [
         1, 0, 0, 0,
-        10, 0, 0, 0,  2, 0, 0, 0,  1, 0, 0, 0,  2, 1, 0, 0,
+        10, 0, 0, 0,  2, 0, 0, 0,  1, 0, 0, 0,  5, 0, 0, 0,  2, 1, 0, 0,
         3, 0, 0, 0,  4, 0, 0, 0,  2, 0, 0, 0,  1, 0, 0, 0,
         0x10, 0, 0, 0,  0x20, 0, 0, 0,  0xee, 0, 0, 0,
         8, 7, 6, 5,  4, 3, 2, 1,  255, 255, 255, 255,  255, 255, 255, 255,
@@ -71,14 +72,14 @@ fn a_case_byte_for_byte() {
 }
 
 /// Cut, too long, or with a number too large for its place.
-fn assert_no_other_file_reads(bytes: [u8; 75]) {
+fn assert_no_other_file_reads(bytes: [u8; 79]) {
     for length in 0..bytes.len() {
         assert_eq!(read_cases(&bytes[..length]), None);
     }
     assert_eq!(read_cases(&[&bytes[..], &[0]].concat()), None);
     // No such call, a number too large for its place, more than there is room for.
     for (place, value) in
-        [(4, 0), (4, 18), (9, 1), (13, 1), (18, 1), (22, 1), (39, 1), (43, 1), (45, 1)]
+        [(4, 0), (4, 18), (9, 1), (13, 1), (17, 1), (22, 1), (26, 1), (43, 1), (47, 1), (49, 1)]
     {
         let mut wrong = bytes;
         wrong[place] = value;
@@ -91,7 +92,7 @@ fn the_cases_read_as_written_and_are_the_same_each_time() {
     let file = write_cases(&cases());
     assert_eq!(read_cases(&file), Some(cases()));
     assert!(cases().iter().all(Case::fits));
-    assert!(file.len() < 1_500_000);
+    assert!(file.len() < 1_700_000);
     assert_eq!(lines(&cases()).lines().count(), cases().len());
 }
 
@@ -152,14 +153,26 @@ fn a_line_tells_entries_the_chosen_one_and_gates() {
     let (first, second) = (gates("N x0, N x0, D x0"), gates("D x0"));
     let choice = Case {
         lines: 1,
+        fitted: 7,
         stored: first.clone(),
         more_stored: second.clone(),
         ..Case::new(Call::Choose)
     };
     let [one, other] = [Digest::of(&first), Digest::of(&second)];
     assert_eq!(choice.line(), format!("9 0 0 2 0 0 {one} {other} {other} {nothing}\n"));
-    let refused = Case { value: 3, ..choice };
+    let refused = Case { value: 3, ..choice.clone() };
     assert_eq!(refused.line(), format!("9 10 0 0 0 0 {one} {other} {nothing} {nothing}\n"));
+    let refused = Case { fitted: 8, ..choice };
+    assert_eq!(refused.line(), format!("9 13 0 0 0 0 {one} {other} {nothing} {nothing}\n"));
+    // Without E, two of them cost 4 and three C1 cost 3.
+    let (first, second) = (gates("E x0, E x0"), gates("C1 x0, C1 x0, C1 x0"));
+    let [one, other] = [Digest::of(&first), Digest::of(&second)];
+    for (fitted, which, chosen) in [(7, 1, one), (4, 2, other)] {
+        let (stored, more_stored) = (first.clone(), second.clone());
+        let choice = Case { lines: 1, fitted, stored, more_stored, ..Case::new(Call::Choose) };
+        let line = format!("9 0 0 {which} 0 0 {one} {other} {chosen} {nothing}\n");
+        assert_eq!(choice.line(), line);
+    }
 
     // A gate: D x0 x1=2 is operator 4, target 0, controls 3 2 3 3 3 3.
     let reader = Case { lines: 2, stored: gates("D x0 x1=2"), end: 8, ..Case::new(Call::Next) };
@@ -231,6 +244,35 @@ fn the_edges_of_lists_are_there() {
     assert!(answering(Call::WriteNames, 0).contains(&[17, 0, 0, 248_000, 0, 0]));
     assert!(answering(Call::WriteNames, 5).contains(&[17, 5, 248_000, 0, 0, 0]));
     assert!(answering(Call::WriteNames, 7).contains(&[17, 7, 7_999, 0, 0, 0]));
+}
+
+#[test]
+fn the_edges_of_boards_are_there() {
+    // 8,000 of the dearest gates, fitted and not.
+    for cost in [8_000 * 85, 8_000 * 86] {
+        assert!(answering(Call::Price, 0).contains(&[7, 0, 0, cost, 0, 0]));
+    }
+    // One N, two D, four E, eight C1 that cost 3 and sixteen C2: 47, and 1 more for each
+    // that isn't fitted. By the sets from 0 up, then 13 to the end.
+    let prices = cases().into_iter().filter(|case| case.call == Call::Price && case.times == 16);
+    let told: Vec<_> = prices.map(|case| (case.fitted, numbers(&case))).collect();
+    let costs = [0, 47 + 5, 47 + 3, 47 + 1, 47 + 6, 47 + 4, 47 + 2, 47];
+    assert_eq!(told.len(), 256);
+    for (set, (fitted, numbers)) in told.into_iter().enumerate() {
+        assert_eq!(fitted as usize, set);
+        let expected = match costs.get(set) {
+            Some(&cost) if set > 0 => [7, 0, 0, cost, 0, 0],
+            _ => [7, 13, 0, 0, 0, 0],
+        };
+        assert_eq!(numbers, expected, "{set}");
+    }
+    // Some choices are other ones with another set.
+    let [first, second] = ["C1 x0, C1 x0, C1 x0", "E x0, E x0"].map(gates);
+    let choices = cases().into_iter().filter(|case| {
+        case.call == Call::Choose && case.stored == first && case.more_stored == second
+    });
+    let chosen: Vec<_> = choices.map(|case| (case.fitted, numbers(&case)[3])).collect();
+    assert_eq!(chosen, [(1, 1), (2, 2), (3, 2), (4, 1), (5, 1), (6, 2), (7, 2)]);
 }
 
 #[test]

@@ -22,16 +22,16 @@ use borrow.Author.Needs.{needs}
 use Rattle.cascades.proofs.price_on.Statement.{statement}
 use Rattle.cascades.proofs.price_on.Tie as tie
 
-record Going (n v : ℕ) (b : List ℕ) (m cost i : ℕ) : Type 0 where
+record Going (n v s : ℕ) (b : List ℕ) (m cost i : ℕ) : Type 0 where
   passing : Passing isRecord n b m i
-  small : cost ≤ 85 * i
-  value : cost + cascadePrice v (span (gateIn b) i (m - i)) ≡ cascadePrice v (span (gateIn b) 0 m)
+  small : cost ≤ 86 * i
+  value : cost + cascadePrice v s (span (gateIn b) i (m - i)) ≡ cascadePrice v s (span (gateIn b) 0 m)
 
 abbrev Inv-loop : tie.InvT-loop
-Inv-loop lines value cascade m cost₀ i₀ cost i = Going lines value cascade m cost i
+Inv-loop lines value fitted cascade m cost₀ i₀ cost i = Going lines value fitted cascade m cost i
 
 abbrev μ-loop : tie.MeasureT-loop
-μ-loop lines value cascade m cost₀ i₀ cost i = m - i
+μ-loop lines value fitted cascade m cost₀ i₀ cost i = m - i
 
 module _ (c : tie.Else1 Inv-loop μ-loop) where
   whole : lengthOk (length (c .before .before .before .args .cascade .now)) ≡ true
@@ -40,19 +40,19 @@ module _ (c : tie.Else1 Inv-loop μ-loop) where
 -- the gate at the loop's place
 module _ (c : tie.After-known-told Inv-loop μ-loop) where
   gate : Gate
-  gate = record { operator = c .before .controls .given .0 .0; target = c .before .controls .given .0 .1 .0; controls = c .before .controls .given .0 .1 .1 .0 }
+  gate = record { operator = c .before .operator .given .0 .0; target = c .before .operator .given .0 .1 .0; controls = c .before .operator .given .0 .1 .1 .0 }
 
   got : Gives (c .before .before .before .before .before .before .before .before .before .args .lines) (c .before .before .before .before .before .before .before .before .before .args .cascade .now) (8 * c .before .before .before .before .before .loop .i) gate
   unfolding gate
-  got = gives _ _ _ _ _ _ (sym (c .before .before .before .decode .ensures) ∙ c .before .controls .given .1)
+  got = gives _ _ _ _ _ _ (sym (c .before .before .before .decode .ensures) ∙ c .before .operator .given .1)
 
 module _ (c : tie.After-price-gate Inv-loop μ-loop) where
-  paid : c .price-gate .result ≡ gatePrice (c .before .before .before .before .before .before .before .before .before .before .args .value) (gate (c .before))
+  paid : (let a = c .before .before .before .before .before .before .before .before .before .before .args in c .price-gate .result ≡ gatePrice (a .value) (a .fitted) (gate (c .before)))
   unfolding gate
-  paid = c .price-gate .ensures ∙ price-of _ (gate (c .before))
+  paid = c .price-gate .ensures ∙ price-of _ _ (gate (c .before))
 
-  cheap : c .price-gate .result ≤ 85
-  cheap = rw paid (price-le _ _ _ (lines-are _ (c .before .before .before .before .before .before .before .before .before .before .pre) .1) (gives-gate _ _ _ _ (got (c .before))))
+  cheap : c .price-gate .result ≤ 86
+  cheap = rw paid (price-le _ _ _ _ (lines-are _ (c .before .before .before .before .before .before .before .before .before .before .pre) .1) (gives-gate _ _ _ _ (got (c .before))))
 
 length-ok-requires : tie.Need-length-ok-requires Inv-loop μ-loop
 length-ok-requires c κs = search needs
@@ -69,8 +69,8 @@ mul-decode c = search needs
 decode-requires : tie.Need-decode-requires Inv-loop μ-loop
 decode-requires c κs = search needs
 
-enum-known-controls : tie.Need-enum-known-controls Inv-loop μ-loop
-enum-known-controls c = search needs
+enum-known-operator : tie.Need-enum-known-operator Inv-loop μ-loop
+enum-known-operator c = search needs
 
 enum-told : tie.Need-enum-told Inv-loop μ-loop
 enum-told c = search needs
@@ -102,14 +102,14 @@ loop-again c =
     record {
       passing = passing-next _ _ _ _ _ lt (got (c .before) .is) (i .passing);
       small = omega (arith, cheap c, i .small);
-      value = rw (paid c, ← got (c .before) .value) (price-more _ _ _ _ _ lt) ∙ i .value;
+      value = rw (paid c, ← got (c .before) .value) (price-more _ _ _ _ _ _ lt) ∙ i .value;
     }
 
 returns-3 : tie.Need-returns-3 Inv-loop μ-loop
 unfolding gatesOf
 returns-3 c =
     let i = c .before .loop .inv in
-    ap (λ (x : ℕ). accepted (x ∷ [])) (sym (price-ends _ _ _ _ _ (c .loop-test .left)) ∙ i .value)
+    ap (λ (x : ℕ). accepted (x ∷ [])) (sym (price-ends _ _ _ _ _ _ (c .loop-test .left)) ∙ i .value)
     ∙ sym (on-records-good _ _ _ _ _ (whole (c .before .before)) (c .loop-test .left) (i .passing))
 
 pub price-on-spec : {M : Type 1} → statement M
@@ -123,7 +123,7 @@ price-on-spec =
     loop-holds
     mul-decode
     decode-requires
-    enum-known-controls
+    enum-known-operator
     enum-told
     returns-2
     price-gate-requires

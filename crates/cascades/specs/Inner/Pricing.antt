@@ -2,6 +2,6 @@
 use Prim.Native.Nat.{ℕ}
 use Rattle.gates.specs.declared.Gate.{Gate}
 
--- a gate with the packed controls c: its operator and target do not matter to its price
-abbrev pub withControls : ℕ → Gate
-withControls c = record { operator = 0; target = 0; controls = c }
+-- a gate with this operator and these packed controls: its target does not matter to its price
+abbrev pub gateWith : ℕ → ℕ → Gate
+gateWith o c = record { operator = o; target = 0; controls = c }

@@ -9,6 +9,7 @@ use Rattle.card.specs.Card.{Answer.accepted, refusing}
 use Rattle.card.proofs.Cards.{refusing-yes, refusing-no, refused-both, accepted-both, sets-laid}
 use Rattle.cascades.specs.Cascades.{records, gatesOf}
 use Rattle.cascades.specs.Inner.Checked.{Whole}
+use Rattle.cascades.specs.Boards.{setOk, onBoard}
 use Rattle.cascades.specs.Answers.{pricedAs, priceAnswer}
 use Rattle.cascades.proofs.Checks.{passed, price-accepted, price-refused}
 use Rattle.listings.specs.Listings.{listingWith, listingText, listingAnswer, listingRoom}
@@ -21,17 +22,17 @@ module _ (c : tie.After-known-told2) where
   abbrev given : tie.Start
   given = c .before .before .before .before .before .before
 
-  found : priceAnswer (given .args .lines) 2 (given .args .cascade .now) ≡ accepted (c .before .cost .given .0 .0 ∷ [])
+  found : priceAnswer (given .args .lines) 2 7 (given .args .cascade .now) ≡ accepted (c .before .cost .given .0 .0 ∷ [])
   found = sym (c .before .before .before .price .ensures) ∙ ap pricedAs (c .before .cost .given .1)
 
   whole : (let a = given .args in Whole (a .lines) (a .cascade .now) (records (a .cascade .now)))
-  whole = price-accepted _ _ 2 _ found .whole
+  whole = price-accepted _ _ 2 7 _ found .whole
 
   text : (let a = given .args in listingWith (a .lines) (c .before .cost .given .0 .0) (gatesOf (a .cascade .now)) ≡ listingText (a .lines) (gatesOf (a .cascade .now)))
   unfolding listingText
   text =
       let a = given .args in
-      let p = price-accepted _ _ 2 _ found in
+      let p = price-accepted _ _ 2 7 _ found in
       ap (λ (cost : ℕ). listingWith (a .lines) cost (gatesOf (a .cascade .now))) (cc (p .is))
 
 price-requires : tie.Need-price-requires
@@ -57,10 +58,10 @@ write-listing-requires : tie.Need-write-listing-requires
 write-listing-requires c κs = (whole (c .before .before .before), rw (c .before .before .size-listing .ensures) at (c .before .if1 .left))
 
 returns-2 : tie.Need-returns-2
-unfolding listingAnswer listingRoom refusing
+unfolding listingAnswer listingRoom onBoard setOk refusing
 returns-2 c =
     let e = sym (c .before .before .before .price .ensures) ∙ ap pricedAs (c .before .number .given .1) in
-    refused-both _ _ _ _ _ (price-refused _ _ 2 _ _ _ e)
+    refused-both _ _ _ _ _ (price-refused _ _ 2 7 _ _ _ e)
 
 same-length : tie.Need-same-length
 same-length c = search needs
