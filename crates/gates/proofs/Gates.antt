@@ -1,10 +1,13 @@
 -- What a gate does: it stays within the patterns of its lines, a line without control does not matter to it, and its inverse takes it back.
 -- Assumes nothing.
 use mathlib.Core.Path.{_≡_, refl, _∙_}
-use mathlib.Core.Bool.{Bool, true, false, cond}
-use Prim.Native.Nat.{ℕ, _^_, _<_}
+use mathlib.Core.Bool.{Bool, true, false, or-true}
+use Prim.Native.Nat.{ℕ, _^_, _≤_, _<_}
 use native.Mathlib.Decide.{ℕ-discrete}
 use native.Mathlib.Omega.{arith}
+use lib.Dec.{eqb}
+use borrow.Author.Tests.{eq-eqb}
+use Rattle.ranges.proofs.Bools.{cond-lt}
 use Rattle.ranges.proofs.Tests.{every-ext}
 use Rattle.digits.specs.Digits.{digit, put}
 use Rattle.digits.proofs.Digits.{digit-lt, digit-put-same, digit-put-other, put-put, put-same, put-lt}
@@ -12,10 +15,6 @@ use Rattle.gates.specs.declared.Gate.{Gate}
 use Rattle.gates.specs.Gates.{act, inverseOp, control, holds, firesOn, changed, applied, inverse, IsGate}
 use Rattle.gates.specs.Inner.Firing.{fires}
 use Rattle.gates.proofs.Operators.{act-lt, act-inverse, inverse-is-op, inverse-twice}
-
-cond-lt : (b : Bool) {x y n : ℕ} → x < n → y < n → cond b x y < n
-cond-lt true lx ly = lx
-cond-lt false lx ly = ly
 
 -- ---- in radix r, where the target's digit becomes what f makes of it
 
@@ -46,6 +45,11 @@ fires-put r c p t d ld e = every-ext _ _ 0 6 (λ k le lt. at k (ℕ-discrete k t
 pub holds-none : (x : ℕ) → holds 3 x ≡ true
 unfolding holds
 holds-none x = refl
+
+-- a control is content with its own value
+pub holds-equal : (c x : ℕ) → c ≡ x → holds c x ≡ true
+unfolding holds
+holds-equal c x e = rw (eq-eqb c x e) (or-true (eqb c 3))
 
 pub fires-put-free : (r c p t d : ℕ) → d < r → digit 4 t c ≡ 3 → firesOn r c (put r t p d) ≡ firesOn r c p
 fires-put-free r c p t d ld free = fires-put r c p t d ld (rw (free, holds-none d, holds-none (digit r t p)))
@@ -95,3 +99,15 @@ unfolding inverse
 inverse-inverse n g ok =
     let e = inverse-twice (g .operator) (ok .op-low) (ok .op-high) in
     λ i. record { operator = e i; target = g .target; controls = g .controls }
+
+-- a gate on n lines is one on more
+pub gate-wider : (n m : ℕ) → n ≤ m → (g : Gate) → IsGate n g → IsGate m g
+gate-wider n m le g ok =
+    record {
+      op-low = ok .op-low;
+      op-high = ok .op-high;
+      on-line = omega (arith, ok .on-line);
+      own = ok .own;
+      beyond = λ k far lt. ok .beyond k (omega arith) lt;
+      packed = ok .packed;
+    }

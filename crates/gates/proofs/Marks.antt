@@ -1,13 +1,14 @@
 -- Six bytes at once: marks on those of which something holds. What is finite is computed. Assumes nothing.
 use mathlib.Core.Path.{_≡_, refl, sym, ap, _∙_}
-use mathlib.Core.Bool.{Bool, true, false, cond, not}
-use Prim.Native.Nat.{ℕ, _+_, _-_, _/_, _%_, _^_, _≤_, _<_}
+use mathlib.Core.Bool.{Bool, cond, not}
+use Prim.Native.Nat.{ℕ, _+_, _-_, _/_, _%_, _^_, _<_}
 use native.Mathlib.Nat.{lt-of-le-of-lt}
 use native.Mathlib.Omega.{arith}
 use lib.Dec.{eqb, ltb}
 use lib.Bits.{bitAnd, bitOr, bitXor, and-le-r, and-mask, or-mod}
 use borrow.Author.Tests.{eqb-true, ltb-true}
 use Rattle.ranges.specs.Ranges.{every, sum}
+use Rattle.ranges.proofs.Bools.{cond-lt, one-at-most}
 use Rattle.ranges.proofs.Tests.{every-below}
 use Rattle.ranges.proofs.Sums.{sum-le}
 use Rattle.digits.specs.Digits.{digit, pack}
@@ -30,8 +31,7 @@ two-bits x lt = eqb-true _ _ (every-below (λ x. eqb (bitOr (x % 2) (x / 2 % 2))
 
 -- 0 or 1 is a byte
 mark-lt : (b : Bool) → cond b 0 1 < 256
-mark-lt true = omega arith
-mark-lt false = omega arith
+mark-lt b = cond-lt b (omega arith) (omega arith)
 
 marked-is : (x : ℕ) → ((k : ℕ) → k < 6 → byte k x < 4) → bitAnd (bitOr x (x / 2)) 1103823438081 ≡ pack 256 (λ k. cond (eqb (byte k x) 0) 0 1) 6
 marked-is x small =
@@ -92,16 +92,11 @@ pub marks-lt : (w : ℕ) → controlMarks w < 256 ^ 6
 unfolding controlMarks
 marks-lt w = pack-lt 256 (λ k. cond (eqb (byte (2 + k) w) 3) 0 1) 6 (λ k lt. mark-lt (eqb (byte (2 + k) w) 3))
 
--- how many there are: modulo 255 each byte has the weight 1
-pub marks-counted : (w : ℕ) → controlMarks w % 255 ≡ sum (λ k. cond (eqb (byte (2 + k) w) 3) 0 1) 0 6
-unfolding controlMarks
-marks-counted w =
-    let few = sum-le (λ k. cond (eqb (byte (2 + k) w) 3) 0 1) 1 0 6 (λ k. one-most (eqb (byte (2 + k) w) 3)) in
-    omega (arith, bytes-sum (λ k. cond (eqb (byte (2 + k) w) 3) 0 1), few)
-  where
-    one-most : (b : Bool) → cond b 0 1 ≤ 1
-    one-most true = omega arith
-    one-most false = omega arith
+-- how many of six marks there are: modulo 255 each byte has the weight 1
+pub marks-counted : (f : ℕ → Bool) → pack 256 (λ k. cond (f k) 0 1) 6 % 255 ≡ sum (λ k. cond (f k) 0 1) 0 6
+marks-counted f =
+    let few = sum-le (λ k. cond (f k) 0 1) 1 0 6 (λ k. one-at-most (f k)) in
+    omega (arith, bytes-sum (λ k. cond (f k) 0 1), few)
 
 -- the gate's control on line k is its byte
 pub control-word : (w : ℕ) → LowControls w → (k : ℕ) → k < 6 → control (gateOf w) k ≡ byte (2 + k) w

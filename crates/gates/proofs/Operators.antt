@@ -1,12 +1,12 @@
 -- The operators: document 01's table, their range, and that the inverse takes an operator back. Assumes nothing.
 use mathlib.Core.Path.{_≡_, refl}
-use mathlib.Core.Bool.{Bool, true, false, cond}
 use mathlib.Core.List.{[], _∷_, map}
 use Prim.Native.Nat.{ℕ, zero, suc, _+_, _*_, _/_, _%_, _≤_, _<_}
 use native.Mathlib.Nat.{mod-lt}
 use native.Mathlib.Omega.{arith}
 use lib.Dec.{ltb}
 use lib.Bits.{bitXor}
+use Rattle.ranges.proofs.Bools.{cond-lt}
 use Rattle.digits.proofs.ThreeCases.{three}
 use Rattle.gates.specs.Gates.{act, inverseOp}
 
@@ -37,11 +37,7 @@ five P a b c d e (suc (suc (suc (suc (suc (suc o)))))) lo hi = absurd (omega ari
 -- an operator's value is a digit
 pub act-lt : (o x : ℕ) → act o x < 3
 unfolding act
-act-lt o x = go (ltb o 3)
-  where
-    go : (b : Bool) → cond b ((x + o) % 3) ((2 * x + o + 2) % 3) < 3
-    go true = mod-lt (x + o) (omega arith)
-    go false = mod-lt (2 * x + o + 2) (omega arith)
+act-lt o x = cond-lt (ltb o 3) (mod-lt (x + o) (omega arith)) (mod-lt (2 * x + o + 2) (omega arith))
 
 pub act-inverse : (o x : ℕ) → 1 ≤ o → o ≤ 5 → x < 3 → act (inverseOp o) (act o x) ≡ x
 unfolding act inverseOp

@@ -1,7 +1,7 @@
 -- A gate and its record. `decode-encode` and `encode-decode` are the two round trips: a gate's record reads as that gate, and the bytes that read as a
 -- gate are its record, so each gate has one. Assumes nothing.
 use mathlib.Core.Path.{_≡_, refl, ap, _∙_, subst}
-use mathlib.Core.Bool.{Bool, true, false, cond, _&&_, _||_}
+use mathlib.Core.Bool.{Bool, true, false, cond, _&&_, _||_, or-true}
 use mathlib.Core.List.{List, [], _∷_}
 use mathlib.Core.Logic.{_⊎_}
 use Prim.Native.Nat.{ℕ, zero, suc, _+_, _^_, _≤_, _<_}
@@ -123,13 +123,9 @@ gate-at n b at six e =
       op-high = r .op-high;
       on-line = r .on-line;
       own = none (getD b (at + 1) 0) (omega (arith, r .on-line)) (rw (eq-eqb t t refl));
-      beyond = λ k le lt. none k lt (or-right (eqb k t) (leb n k) (le-leb n k le));
+      beyond = λ k le lt. none k lt (rw (le-leb n k le) (or-true (eqb k t)));
       packed = packed-lt n t b at (r .lines);
     }
-  where
-    or-right : (a c : Bool) → c ≡ true → (a || c) ≡ true
-    or-right true c e = refl
-    or-right false c e = e
 
 -- ---- from bytes to a gate and back
 

@@ -1,9 +1,10 @@
 -- What is guessed of a gate's line is that gate: so a line is that of one gate at most. Assumes nothing.
 use mathlib.Core.Path.{_≡_, refl, sym, ap, _∙_}
-use mathlib.Core.Bool.{Bool, true, false, cond}
+use mathlib.Core.Bool.{true, false}
 use mathlib.Core.Logic.{⊎-elim}
 use mathlib.Core.List.{List, [], _∷_, _++_, append-assoc}
 use Prim.Native.Nat.{ℕ, zero, suc, _+_, _-_, _%_, _^_, _≤_, _<_}
+use native.Mathlib.Nat.{mod-lt}
 use native.Mathlib.Numerals.{add-one}
 use native.Mathlib.Decide.{ℕ-discrete}
 use native.Mathlib.Omega.{arith}
@@ -12,6 +13,7 @@ use lib.Seq.{getD-drop, drop-drop}
 use borrow.Author.Tests.{eq-eqb, ne-eqb}
 use Rattle.ranges.specs.Ranges.{span}
 use Rattle.ranges.proofs.Counts.{here-or-later}
+use Rattle.ranges.proofs.Bools.{cond-lt}
 use Rattle.digits.specs.Digits.{digit, pack}
 use Rattle.digits.proofs.Digits.{digit-lt}
 use Rattle.digits.proofs.Packs.{pack-ext, pack-lt, pack-digits}
@@ -150,11 +152,7 @@ guess-back n g six ok =
 
 control-in-lt : (l : List ℕ) (k : ℕ) → controlIn l k < 4
 unfolding controlIn
-control-in-lt l k = go (stands l (behindControls l k) k) (getD l (behindControls l k + 4) 0)
-  where
-    go : (b : Bool) (x : ℕ) → cond b (x % 4) 3 < 4
-    go true x = omega arith
-    go false x = omega arith
+control-in-lt l k = cond-lt (stands l (behindControls l k) k) (mod-lt (getD l (behindControls l k + 4) 0) (omega arith)) (omega arith)
 
 pub controls-in-lt : (l : List ℕ) (m : ℕ) → pack 4 (controlIn l) m < 4 ^ m
 controls-in-lt l m = pack-lt 4 (controlIn l) m (λ k lt. control-in-lt l k)

@@ -2,7 +2,7 @@
 -- Row i's entry is i or more, so row i has at most `most r n i` gates: one for each line, but none from the line up from which every digit of i is the largest.
 -- `most` is summed by taking the lowest digit off. Assumes nothing.
 use mathlib.Core.Path.{_≡_, sym, ap, _∙_}
-use mathlib.Core.Bool.{Bool, true, false, cond}
+use mathlib.Core.Bool.{cond}
 use mathlib.Core.List.{List}
 use Prim.Native.Nat.{ℕ, zero, suc, _+_, _-_, _*_, _/_, _%_, _^_, _≤_, _<_}
 use native.Mathlib.Nat.{pow-zero, pow-succ', le-of-mul-le-mul-left, div-eq-of-eq-mul-right, le-refl, zero-add}
@@ -12,6 +12,7 @@ use lib.Dec.{eqb}
 use lib.ListN.{length}
 use borrow.Author.Tests.{eq-eqb, ne-eqb}
 use Rattle.ranges.specs.Ranges.{sum}
+use Rattle.ranges.proofs.Bools.{one-at-most}
 use Rattle.ranges.proofs.Sums.{sum-snoc}
 use Rattle.ranges.proofs.Blocks.{sum-add, sum-blocks, sum-but-last}
 use Rattle.digits.proofs.Digits.{div-lt-pow}
@@ -29,10 +30,6 @@ unfoldable most : ℕ → ℕ → ℕ → ℕ
 most r zero i = 0
 most r (suc n) i = most r n (i / r) + cond (eqb (suc i) (r ^ suc n)) 0 1
 
-cond-le : (b : Bool) → cond b 0 1 ≤ 1
-cond-le true = omega arith
-cond-le false = omega arith
-
 differing-most : (r n a i : ℕ) → 0 < r → i ≤ a → a < r ^ n → differing r n a i ≤ most r n i
 unfolding most
 differing-most r zero a i pos le lt = rw (differing-none r a i) (omega arith)
@@ -44,7 +41,7 @@ differing-most r (suc n) a i pos le lt =
     go ih (yes e) =
         let same : a ≡ i = omega arith in
         rw (eq-eqb (a % r) (i % r) (ap (λ (x : ℕ). x % r) same), eq-eqb (suc i) (r ^ suc n) e) (omega arith)
-    go ih (no ne) = rw (ne-eqb (suc i) (r ^ suc n) ne) (omega (arith, cond-le (eqb (a % r) (i % r))))
+    go ih (no ne) = rw (ne-eqb (suc i) (r ^ suc n) ne) (omega (arith, one-at-most (eqb (a % r) (i % r))))
 
 module _ (q : ℕ) where
   -- one proof of it for all sections

@@ -1,7 +1,9 @@
--- What a Boolean that is a conjunction, a choice or a negation says. Assumes nothing.
+-- What a Boolean that is a conjunction, a choice or a negation says, and how large a number is that it chooses. Assumes nothing.
 use mathlib.Core.Path.{_≡_, refl, ap₂}
 use mathlib.Core.Logic.{_⊎_}
 use mathlib.Core.Bool.{Bool, true, false, cond, not, _&&_, _||_, true≢false, false≢true}
+use Prim.Native.Nat.{ℕ, _≤_, _<_}
+use native.Mathlib.Omega.{arith}
 
 pub and-left : (a b : Bool) → (a && b) ≡ true → a ≡ true
 and-left true b e = refl
@@ -32,3 +34,13 @@ decide false = _⊎_.inr refl
 pub clash : {A : Type 0} (b : Bool) → b ≡ true → b ≡ false → A
 clash true p q = absurd (true≢false q)
 clash false p q = absurd (false≢true p)
+
+-- one of two numbers is below what both are below
+pub cond-lt : (b : Bool) {x y n : ℕ} → x < n → y < n → cond b x y < n
+cond-lt true lx ly = lx
+cond-lt false lx ly = ly
+
+-- what is counted or not is 1 at most
+pub one-at-most : (b : Bool) → cond b 0 1 ≤ 1
+one-at-most true = omega arith
+one-at-most false = omega arith

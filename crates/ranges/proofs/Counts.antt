@@ -28,3 +28,7 @@ lt-or-le a b = go (decLt a b)
 -- a place q stands before p, or not
 pub by-place : (P : Type 0) (p q : ℕ) → (q < p → P) → (p ≤ q → P) → P
 by-place P p q before behind = ⊎-elim before behind (lt-or-le q p)
+
+-- a fact of the numbers below k, and of k
+pub one-more : (P : ℕ → Type 0) (k : ℕ) → ((l : ℕ) → l < k → P l) → P k → (l : ℕ) → l < k + 1 → P l
+one-more P k all here l lt = by-place (P l) k l (all l) (λ le. let e : l ≡ k = omega arith in rw e here)

@@ -5,9 +5,10 @@ use mathlib.Core.Bool.{Bool, true, false, cond}
 use Prim.Native.Nat.{ℕ, zero, suc, _+_, _-_, _≤_, _<_}
 use native.Mathlib.Nat.{suc-add}
 use native.Mathlib.Omega.{arith}
-use Rattle.ranges.specs.Ranges.{first}
+use Rattle.ranges.specs.Ranges.{some, first}
 use Rattle.ranges.proofs.Counts.{left-suc, left-zero, here-or-later, lt-or-le}
 use Rattle.ranges.proofs.Bools.{clash}
+use Rattle.ranges.proofs.Tests.{some-not}
 
 -- r is the first number from i on of which f holds, or the end e where none below e has it
 pub record Found (f : ℕ → Bool) (i e r : ℕ) : Type 0 where
@@ -39,6 +40,12 @@ not-below f i e r s a b =
 
 pub found-unique : (f : ℕ → Bool) (i e r s : ℕ) → Found f i e r → Found f i e s → r ≡ s
 found-unique f i e r s a b = omega (arith, not-below f i e r s a b, not-below f i e s r b a)
+
+-- where a test passes for some number, it does for the first
+pub some-first : (f : ℕ → Bool) (i m : ℕ) → some f i m ≡ true → first f i m < i + m
+some-first f i m e =
+    ⊎-elim (λ (l : first f i m < i + m). l) (λ (l : i + m ≤ first f i m). clash (some f i m) e (some-not f i m (λ k le lt. found f i m .before k le (omega arith))))
+    (lt-or-le (first f i m) (i + m))
 
 -- searches by tests that agree find the same
 pub first-ext : (f g : ℕ → Bool) (i m : ℕ) → ((k : ℕ) → i ≤ k → k < i + m → f k ≡ g k) → first f i m ≡ first g i m

@@ -23,6 +23,7 @@ use Rattle.card.proofs.Cards.{lines-are}
 use Rattle.gates.specs.declared.Gate.{Gate}
 use Rattle.gates.specs.Gates.{IsGate}
 use Rattle.gates.specs.Records.{gateAt, recordOf}
+use Rattle.gates.proofs.Gates.{gate-wider}
 use Rattle.gates.proofs.Records.{length-record, gate-written, encode-decode}
 use Rattle.cascades.specs.Cascades.{records, gatesOf, bytesOf}
 use Rattle.cascades.specs.Inner.Checked.{Whole}
@@ -83,18 +84,6 @@ holds-list b gs m w e =
 
 -- ---- at the start
 
--- a gate on n lines is one on six
-wider : (n : ℕ) → n ≤ 6 → (g : Gate) → IsGate n g → IsGate 6 g
-wider n six g ok =
-    record {
-      op-low = ok .op-low;
-      op-high = ok .op-high;
-      on-line = omega (arith, ok .on-line);
-      own = ok .own;
-      beyond = λ k le lt. absurd (omega arith);
-      packed = ok .packed;
-    }
-
 pub gate-either : (g : Gate) → IsGate 6 g → GateOrGap g
 gate-either g ok =
     record {
@@ -110,7 +99,7 @@ unfolding isGap
 gap-either = record { op-high = omega arith; on-line = omega arith; packed = omega arith; real = λ e. clash true refl e; blank = λ e. refl }
 
 pub gates-start : (n : ℕ) (b : List ℕ) (m : ℕ) → Whole n b m → Each (IsGate 6) (gatesOf b)
-gates-start n b m w = each-imp (IsGate n) (IsGate 6) (wider n (lines-are n (w .lines) .1)) (gatesOf b) (gates-good n b m w)
+gates-start n b m w = each-imp (IsGate n) (IsGate 6) (gate-wider n 6 (lines-are n (w .lines) .1)) (gatesOf b) (gates-good n b m w)
 
 pub holds-start : (n : ℕ) (b : List ℕ) (m : ℕ) → Whole n b m → BufferHolds b (gatesOf b)
 unfolding gatesOf

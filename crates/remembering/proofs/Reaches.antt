@@ -12,10 +12,6 @@ use Rattle.ranges.proofs.Spans.{length-span}
 use Rattle.ranges.proofs.Changes.{at-set, filled-at}
 use Rattle.remembering.specs.Inner.Rows.{settledMark, NoPairBefore, ReachBounds, ReachBoundsBut}
 
--- a fact of the numbers below k, and of k
-pub one-more : (P : ℕ → Type 0) (k : ℕ) → ((l : ℕ) → l < k → P l) → P k → (l : ℕ) → l < k + 1 → P l
-one-more P k all here l lt = by-place (P l) k l (all l) (λ le. let e : l ≡ k = omega arith in rw e here)
-
 -- ---- how far the rows of a stretch reach
 
 -- a stretch, and sixteen of them, that do not reach gate p

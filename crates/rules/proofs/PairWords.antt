@@ -6,20 +6,19 @@ use Prim.Native.Nat.{ℕ, _+_, _/_, _%_, _^_, _<_, _≤_}
 use native.Mathlib.Omega.{arith}
 use lib.Dec.{eqb}
 use borrow.Author.Tests.{eq-eqb, ne-eqb}
-use Rattle.ranges.specs.Ranges.{every, sum}
+use Rattle.ranges.specs.Ranges.{every}
 use Rattle.ranges.proofs.Tests.{every-below, every-of}
 use Rattle.ranges.proofs.Bools.{decide, clash}
 use Rattle.ranges.proofs.Triples.{beq-same}
-use Rattle.ranges.proofs.Sums.{sum-ext, sum-le}
+use Rattle.ranges.proofs.Sums.{sum-ext}
 use Rattle.ranges.proofs.Counts.{by-place}
 use Rattle.digits.specs.Digits.{digit}
 use Rattle.digits.proofs.Digits.{digit-high}
 use Rattle.digits.proofs.Packs.{pack-ext, pack-lt}
-use Rattle.digits.proofs.Bits.{bytes-sum}
 use Rattle.gates.specs.Gates.{control}
 use Rattle.gates.specs.Inner.Words.{byte, gateOf, LowControls, GateWord, controlMarks, otherMarks}
 use Rattle.gates.proofs.Bytes.{byte-high, operator-word}
-use Rattle.gates.proofs.Marks.{control-mark, control-word}
+use Rattle.gates.proofs.Marks.{control-mark, marks-counted, control-word}
 use Rattle.rules.specs.Rules.{sameLines, differAt, differences}
 use Rattle.rules.specs.Inner.NamedRules.{ruleFor, ruleBy}
 use Rattle.rules.proofs.FittingPairs.{rule-lines}
@@ -78,19 +77,10 @@ module _ (g h : ℕ) (low-g : LowControls g) (low-h : LowControls h) where
   flipped true = refl
   flipped false = refl
 
-  others-summed : otherMarks g (h / 0x1_0000) % 255 ≡ sum unlike-mark 0 6
-  unfolding otherMarks unlike-mark
-  others-summed = let few = sum-le unlike-mark 1 0 6 (λ k. one-most (eqb (byte (2 + k) g) (byte k (h / 0x1_0000)))) in omega (arith, bytes-sum unlike-mark, few)
-    where
-      one-most : (b : Bool) → cond b 0 1 ≤ 1
-      one-most true = omega arith
-      one-most false = omega arith
-
-  -- modulo 255 each byte has the weight 1
   apart-counted : otherMarks g (h / 0x1_0000) % 255 ≡ differences (gateOf g) (gateOf h)
-  unfolding differences differAt unlike-mark
+  unfolding otherMarks differences differAt unlike-mark
   apart-counted =
-      others-summed
+      marks-counted (λ k. eqb (byte (2 + k) g) (byte k (h / 0x1_0000)))
       ∙ sum-ext unlike-mark (λ k. cond (not (eqb (control (gateOf g) k) (control (gateOf h) k))) 1 0) 0 6
       (λ k le l. rw (control-word g low-g k l, control-word h low-h k l, byte-high k h) (flipped (eqb (byte (2 + k) g) (byte (2 + k) h))))
 

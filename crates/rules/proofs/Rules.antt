@@ -23,7 +23,7 @@ use Rattle.gates.specs.declared.Gate.{Gate}
 use Rattle.gates.specs.Gates.{act, inverseOp, control, holds, firesOn, applied, inverse, IsGate}
 use Rattle.gates.specs.Inner.Firing.{fires}
 use Rattle.gates.proofs.Operators.{act-inverse}
-use Rattle.gates.proofs.Gates.{holds-none, inverse-gate}
+use Rattle.gates.proofs.Gates.{holds-none, holds-equal, inverse-gate}
 use Rattle.cascades.specs.Cascades.{ran}
 use Rattle.rules.specs.Places.{isC, upsets, blocks, clashes, mayChange}
 use Rattle.rules.specs.Rules.{sameLines, differAt, differences, lineOf, cancels, merges, reduces, withControl, loosened, retuned}
@@ -267,14 +267,6 @@ ruled-may {g} {h} ms (reduce e) may =
 
 -- ---- what fires
 
-holds-same : (c x : ℕ) → c ≡ x → holds c x ≡ true
-unfolding holds
-holds-same c x e = go (eqb c 3) (eqb c x) (eq-eqb c x e)
-  where
-    go : (a b : Bool) → b ≡ true → (a || b) ≡ true
-    go true b q = refl
-    go false b q = q
-
 holds-not : (c x : ℕ) → c < 3 → (c ≡ x → ⊥) → holds c x ≡ false
 unfolding holds
 holds-not c x lt ne = rw (ne-eqb c 3 (omega arith), ne-eqb c x ne)
@@ -294,7 +286,7 @@ fires-without g l p k held none others = fires-same g l p (λ j lt. go j lt (ℕ
   where
     go : (j : ℕ) → j < 6 → Dec (j ≡ k) → holds (control g j) (digit 3 j p) ≡ holds (control l j) (digit 3 j p)
     go j lt (yes q) =
-        holds-same (control g j) (digit 3 j p) (ap (control g) q ∙ held ∙ ap (λ (i : ℕ). digit 3 i p) (sym q))
+        holds-equal (control g j) (digit 3 j p) (ap (control g) q ∙ held ∙ ap (λ (i : ℕ). digit 3 i p) (sym q))
         ∙ sym (ap (λ (c : ℕ). holds c (digit 3 j p)) (ap (control l) q ∙ none) ∙ holds-none (digit 3 j p))
     go j lt (no ne) = ap (λ (c : ℕ). holds c (digit 3 j p)) (others j lt ne)
 

@@ -1,7 +1,7 @@
 -- The gate of the procedure: it is a gate on n lines, and it fires on a pattern exactly if every line but its target holds the digit of a. Its
 -- controls are made from those that name a (`controls-made`), and these from the digits of a, all at once (`full-made`). Assumes nothing.
 use mathlib.Core.Path.{_≡_, refl, sym, ap, _∙_}
-use mathlib.Core.Bool.{Bool, true, false, cond, _||_, or-true}
+use mathlib.Core.Bool.{true, cond, _||_, or-true}
 use mathlib.Core.Logic.{_⊎_}
 use Prim.Native.Nat.{ℕ, _+_, _-_, _*_, _%_, _^_, _≤_, _<_}
 use native.Mathlib.Nat.{add-zero}
@@ -12,6 +12,7 @@ use lib.Bits.{bitOr, or-lt, or-zero-r}
 use borrow.Author.Tests.{eqb-true, eq-eqb, ne-eqb, ltb-true, leb-true, le-leb, lt-leb}
 use Rattle.ranges.specs.Ranges.{every, sum}
 use Rattle.ranges.proofs.Counts.{lt-or-le}
+use Rattle.ranges.proofs.Bools.{cond-lt}
 use Rattle.ranges.proofs.Tests.{every-below, every-of}
 use Rattle.digits.specs.Digits.{digit, pack}
 use Rattle.digits.proofs.Digits.{digit-lt, digit-high, digits-equal}
@@ -21,16 +22,12 @@ use Rattle.digits.proofs.Sizes.{three-pos}
 use Rattle.gates.specs.Gates.{control, holds, firesOn, IsGate}
 use Rattle.gates.specs.Inner.Firing.{fires}
 use Rattle.gates.specs.Inner.Quads.{quad}
-use Rattle.gates.proofs.Gates.{holds-none}
+use Rattle.gates.proofs.Gates.{holds-none, holds-equal}
 use Rattle.synthesis.specs.Synthesis.{controlFor, gateFor}
 use Rattle.synthesis.specs.Inner.TableSteps.{fullControls}
 use Rattle.synthesis.proofs.Exchangers.{exchanger-op}
 
 -- ---- a control and the value of its line
-
-holds-equal : (c x : ℕ) → c ≡ x → holds c x ≡ true
-unfolding holds
-holds-equal c x e = rw (eq-eqb c x e) (or-true (eqb c 3))
 
 equal-holds : (c x : ℕ) → c < 3 → holds c x ≡ true → c ≡ x
 unfolding holds
@@ -53,11 +50,7 @@ module _ (n k a : ℕ) where
 
   pub control-lt : (j : ℕ) → controlFor n k a j < 4
   unfolding controlFor
-  control-lt j = go (eqb j k || leb n j) (digit-lt 3 j a three-pos)
-    where
-      go : (b : Bool) → digit 3 j a < 3 → cond b 3 (digit 3 j a) < 4
-      go true lt = omega arith
-      go false lt = omega arith
+  control-lt j = cond-lt (eqb j k || leb n j) (omega arith) (omega (arith, digit-lt 3 j a three-pos))
 
 -- ---- the gate
 
@@ -105,11 +98,7 @@ abbrev named : ℕ → ℕ → ℕ → ℕ
 named n a j = cond (leb n j) 3 (digit 3 j a)
 
 named-lt : (n a j : ℕ) → named n a j < 4
-named-lt n a j = go (leb n j) (digit-lt 3 j a three-pos)
-  where
-    go : (b : Bool) → digit 3 j a < 3 → cond b 3 (digit 3 j a) < 4
-    go true lt = omega arith
-    go false lt = omega arith
+named-lt n a j = cond-lt (leb n j) (omega arith) (omega (arith, digit-lt 3 j a three-pos))
 
 -- both bits of line k
 abbrev both : ℕ → ℕ

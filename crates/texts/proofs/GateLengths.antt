@@ -58,11 +58,11 @@ module _ (name : ℕ → List ℕ) where
 
   -- the line of a word's gate: as many controls as there are marks
   pub word-long : (w : ℕ) → GateWord w → length (name (w % 256)) + 4 + 5 * (controlMarks w % 255) ≡ length (gateText name (gateOf w))
-  unfolding sum
+  unfolding sum controlMarks
   word-long w g =
       let one : (k : ℕ) → k < 6 → cond {A = ℕ} (eqb (control (gateOf w) k) 3) 0 5 ≡ 5 * cond (eqb (byte (2 + k) w) 3) 0 1 = λ k lt. rw (control-word w (g .lines) k lt) (five (eqb (byte (2 + k) w) 3)) in
       let l : length (gateText name (gateOf w)) ≡ length (name (w % 256)) + (4 + controlBytes (gateOf w)) = rw (← operator-word w) (length-gate (gateOf w) (omega (arith, g .on-line, target-word w))) in
-      omega (arith, l, marks-counted w, one 0 (omega arith), one 1 (omega arith), one 2 (omega arith), one 3 (omega arith), one 4 (omega arith), one 5 (omega arith))
+      omega (arith, l, marks-counted (λ k. eqb (byte (2 + k) w) 3), one 0 (omega arith), one 1 (omega arith), one 2 (omega arith), one 3 (omega arith), one 4 (omega arith), one 5 (omega arith))
     where
       five : (t : Bool) → cond t 0 5 ≡ 5 * cond t 0 1
       five true = refl

@@ -4,8 +4,8 @@ use mathlib.Core.List.{List}
 use Prim.Native.Nat.{ℕ, _+_, _-_, _%_, _<_, _≤_}
 use native.Mathlib.Omega.{arith}
 use lib.ListN.{getD}
-use Rattle.remembering.proofs.Reaches.{one-more}
 use borrow.Author.Needs.{needs}
+use Rattle.ranges.proofs.Counts.{one-more}
 use Rattle.remembering.specs.Inner.Rows.{settledMark}
 use Rattle.remembering.proofs.rows.count_rows.Statement.{statement}
 use Rattle.remembering.proofs.rows.count_rows.Tie as tie

@@ -2,7 +2,7 @@
 use Prim.Native.Nat.{ℕ, _+_, _-_, _%_, _<_, _≤_}
 use native.Mathlib.Omega.{arith}
 use lib.ListN.{getD}
-use Rattle.remembering.proofs.Reaches.{one-more}
+use Rattle.ranges.proofs.Counts.{one-more}
 use borrow.Author.Needs.{needs}
 use Rattle.remembering.specs.Inner.Rows.{settledMark}
 use Rattle.remembering.proofs.rows.furthest.Statement.{statement}

@@ -2,8 +2,8 @@
 use Prim.Native.Nat.{ℕ, _+_, _-_, _<_, _≤_}
 use native.Mathlib.Omega.{arith}
 use lib.ListN.{getD}
-use Rattle.remembering.proofs.Reaches.{one-more}
 use borrow.Author.Needs.{needs}
+use Rattle.ranges.proofs.Counts.{one-more}
 use Rattle.remembering.proofs.rows.smallest.Statement.{statement}
 use Rattle.remembering.proofs.rows.smallest.Tie as tie
 
