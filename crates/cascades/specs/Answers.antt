@@ -8,11 +8,8 @@ use Rattle.ranges.specs.Ranges.{first}
 use Rattle.card.specs.Card.{Answer, Answer.accepted, Answer.refused, refusing, onLines, after, laid}
 use Rattle.gates.specs.Records.{isRecord}
 use Rattle.cascades.specs.Cascades.{records, gatesOf, bytesOf, ran, undoing}
-use Rattle.cascades.specs.Boards.{onBoard}
-use Rattle.cascades.specs.Prices.{cascadePrice}
 use Rattle.cascades.specs.declared.Counted.{Counted}
 use Rattle.cascades.specs.declared.Ran.{Ran}
-use Rattle.cascades.specs.declared.Priced.{Priced}
 
 -- ---- the document's number and values for each case of an answer
 
@@ -23,10 +20,6 @@ countedAs (Counted.Refused k p) = refused k p
 abbrev pub ranAs : Ran → Answer
 ranAs (Ran.Pattern p) = accepted (p ∷ [])
 ranAs (Ran.Refused k p) = refused k p
-
-abbrev pub pricedAs : Priced → Answer
-pricedAs (Priced.Cost c) = accepted (c ∷ [])
-pricedAs (Priced.Refused k p) = refused k p
 
 -- ---- refusals 6 and 7 of a given cascade
 
@@ -68,7 +61,3 @@ invertAnswer n b room = onLines n (onCascade n b (refusing (ltb (room / 8) (reco
 
 unfoldable pub invertRoom : ℕ → List ℕ → List ℕ → List ℕ
 invertRoom n b room = after (invertAnswer n b (length room)) (laid (bytesOf (undoing (gatesOf b))) room) room
-
--- 1 10 13 6 7
-unfoldable pub priceAnswer : ℕ → ℕ → ℕ → List ℕ → Answer
-priceAnswer n v s b = onBoard n v s (onCascade n b (accepted (cascadePrice v s (gatesOf b) ∷ [])))

@@ -1,5 +1,3 @@
 pub mod Cascades
-pub mod Boards
-pub mod Prices
 pub mod Answers
 pub mod Inner

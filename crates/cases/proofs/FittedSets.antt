@@ -5,12 +5,12 @@ use Rattle.ranges.specs.Ranges.{every, sum, first, span}
 use Rattle.ranges.specs.Lists.{total, through}
 use Rattle.digits.specs.Digits.{digit, put, pack}
 use Rattle.card.specs.Card.{refusing, linesOk, onLines}
-use Rattle.gates.specs.Gates.{act, holds, firesOn, changed, applied}
+use Rattle.gates.specs.Gates.{act, holds, firesOn, changed, applied, controlCount}
 use Rattle.gates.specs.Records.{lineOk, linesOkAt, packedAt, isRecord, gateAt}
 use Rattle.cascades.specs.Cascades.{gatesOf}
-use Rattle.cascades.specs.Boards.{setOk, isFitted, onBoard}
-use Rattle.cascades.specs.Prices.{base, controlCount, others, plainPrice, gatePrice, cascadePrice}
-use Rattle.cascades.specs.Answers.{lengthOk, badRecord, firstBad, onRecords, priceAnswer}
+use Rattle.cascades.specs.Answers.{lengthOk, badRecord, firstBad, onRecords}
+use Rattle.boards.specs.Boards.{setOk, isFitted, onBoard}
+use Rattle.pricing.specs.Prices.{base, others, plainPrice, gatePrice, cascadePrice, priceAnswer}
 use Rattle.choice.specs.Choice.{firstDifference, secondWins, chooseAnswer}
 use Rattle.cases.specs.Cases.{Case}
 use Rattle.cases.specs.FittedSets.{set-cases}

@@ -5,14 +5,14 @@ use Rattle.ranges.specs.Ranges.{every, some, sum, first, span}
 use Rattle.ranges.specs.Lists.{total, through}
 use Rattle.digits.specs.Digits.{digit, put, pack}
 use Rattle.card.specs.Card.{refusing, linesOk, onLines, after, laid}
-use Rattle.gates.specs.Gates.{act, inverseOp, holds, firesOn, changed, applied, inverse}
+use Rattle.gates.specs.Gates.{act, inverseOp, holds, firesOn, changed, applied, inverse, controlCount}
 use Rattle.gates.specs.Records.{lineOk, linesOkAt, packedAt, isRecord, gateAt, recordOf}
 use Rattle.tables.specs.Tables.{tooLarge, repeated, firstLarge, firstRepeated, onTable, checkTableAnswer}
 use Rattle.procedure.specs.Procedure.{adding, digitStep, rowSteps, rows, settled, cascadeFor}
 use Rattle.cascades.specs.Cascades.{gatesOf, bytesOf, tableFor}
-use Rattle.cascades.specs.Boards.{setOk, isFitted, onBoard}
-use Rattle.cascades.specs.Prices.{base, controlCount, others, plainPrice, gatePrice, cascadePrice}
-use Rattle.cascades.specs.Answers.{lengthOk, badRecord, firstBad, onRecords, checkAnswer, priceAnswer}
+use Rattle.cascades.specs.Answers.{lengthOk, badRecord, firstBad, onRecords, checkAnswer}
+use Rattle.boards.specs.Boards.{setOk, isFitted, onBoard}
+use Rattle.pricing.specs.Prices.{base, others, plainPrice, gatePrice, cascadePrice, priceAnswer}
 use Rattle.synthesis.specs.Synthesis.{exchanger, controlFor, gateFor, synthesized, bound, synthesizeAnswer, synthesizeRoom}
 use Rattle.rules.specs.Places.{isC, sameType, upsets, blocks, clashes, mayChange}
 use Rattle.rules.specs.Rules.{sameLines, differAt, differences, lineOf, cancels, merges, reduces, fits, withControl, loosened, retuned}

@@ -5,8 +5,8 @@ use lib.ListN.{replicate}
 use Rattle.ranges.specs.Ranges.{span}
 use Rattle.card.specs.Card.{Answer, Answer.accepted, Answer.refused}
 use Rattle.cascades.specs.Cascades.{gatesOf, bytesOf, tableOf}
-use Rattle.cascades.specs.Prices.{base}
-use Rattle.cascades.specs.Answers.{checkAnswer, priceAnswer}
+use Rattle.cascades.specs.Answers.{checkAnswer}
+use Rattle.pricing.specs.Prices.{base, priceAnswer}
 use Rattle.tables.specs.Tables.{checkTableAnswer}
 use Rattle.synthesis.specs.Synthesis.{synthesized, synthesizeAnswer, synthesizeRoom}
 use Rattle.rules.specs.Tidying.{tidyAnswer, tidyBuffer}

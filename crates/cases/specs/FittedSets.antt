@@ -3,8 +3,7 @@ use Prim.Native.Nat.{ℕ}
 use mathlib.Core.List.{List, [], _∷_, _++_, map}
 use Rattle.card.specs.Card.{Answer.accepted, Answer.refused}
 use Rattle.gates.specs.Records.{gateAt}
-use Rattle.cascades.specs.Prices.{gatePrice}
-use Rattle.cascades.specs.Answers.{priceAnswer}
+use Rattle.pricing.specs.Prices.{gatePrice, priceAnswer}
 use Rattle.choice.specs.Choice.{chooseAnswer}
 use Rattle.cases.specs.Cases.{Case, answer-is, numbers-are, C1, C2, N, D, E, no-control, x0}
 

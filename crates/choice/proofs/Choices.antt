@@ -17,10 +17,12 @@ use Rattle.card.proofs.Cards.{good-lines, refusing-yes, refusing-no}
 use Rattle.gates.specs.declared.Gate.{Gate}
 use Rattle.cascades.specs.Cascades.{records, gatesOf, ran, tableFor, tableOf}
 use Rattle.cascades.specs.Inner.Checked.{Whole}
-use Rattle.cascades.specs.Boards.{onBoard}
-use Rattle.cascades.specs.Answers.{onCascade, priceAnswer}
-use Rattle.cascades.proofs.Boards.{board-passed}
-use Rattle.cascades.proofs.Checks.{passed, price-accepted, price-refused}
+use Rattle.cascades.specs.Answers.{onCascade}
+use Rattle.cascades.proofs.Checks.{passed}
+use Rattle.boards.specs.Boards.{onBoard}
+use Rattle.boards.proofs.Boards.{board-passed}
+use Rattle.pricing.specs.Prices.{priceAnswer}
+use Rattle.pricing.proofs.PriceAnswers.{price-accepted, price-refused}
 use Rattle.choice.specs.Choice.{firstDifference, secondWins, chooseAnswer, Handed}
 use Rattle.choice.specs.Inner.Comparing.{firstUnlike}
 

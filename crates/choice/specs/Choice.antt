@@ -10,9 +10,9 @@ use Rattle.ranges.specs.Ranges.{first}
 use Rattle.card.specs.Card.{Answer, Answer.accepted, Answer.refused, refusing}
 use Rattle.gates.specs.declared.Gate.{Gate}
 use Rattle.cascades.specs.Cascades.{gatesOf, ran}
-use Rattle.cascades.specs.Boards.{onBoard}
-use Rattle.cascades.specs.Prices.{cascadePrice}
 use Rattle.cascades.specs.Answers.{onCascade}
+use Rattle.boards.specs.Boards.{onBoard}
+use Rattle.pricing.specs.Prices.{cascadePrice}
 use Rattle.choice.specs.declared.Choice.{Choice}
 
 -- the document's number and values for each case: 1 the first, 2 the second

@@ -5,7 +5,7 @@ ghost use Rattle.choice.specs.Choice.{choiceAs, chooseAnswer, Handed};
 
 mod compare;
 
-use cascades::Priced;
+use pricing::Priced;
 
 // Which of the two it is.
 pub enum Choice {
@@ -19,9 +19,9 @@ pub enum Choice {
 pub fn choose(lines: u8, value: u8, fitted: u8, first: &[u8], second: &[u8]) -> Choice
     ensures { λ r. ⌜ choiceAs r ≡ chooseAnswer lines value fitted (now (first .entry)) (now (second .entry)) ⌝ }
 {
-    match cascades::price(lines, value, fitted, first) {
+    match pricing::price(lines, value, fitted, first) {
         Priced::Refused { number, place } => Choice::Refused { number, place },
-        Priced::Cost(one) => match cascades::price(lines, value, fitted, second) {
+        Priced::Cost(one) => match pricing::price(lines, value, fitted, second) {
             Priced::Refused { number, place } => Choice::Refused { number, place },
             Priced::Cost(two) => {
                 let input = compare::first_difference(lines, first, second);

@@ -8,7 +8,7 @@ use lib.ListN.{length, getD}
 use borrow.Author.Tests.{lt-ltb, le-ltb, eq-eqb, ne-eqb}
 use denote.Ref.{RefT, now}
 use Rattle.gates.specs.declared.Gate.{Gate}
-use Rattle.cascades.specs.Prices.{cascadePrice}
+use Rattle.pricing.specs.Prices.{cascadePrice}
 use Rattle.choice.specs.Choice.{secondWins, chooseAnswer, Handed}
 use Rattle.readers.specs.declared.Reader.{Reader}
 use Rattle.readers.specs.Readers.{Opened}

@@ -2,25 +2,25 @@
 -- no search of a call has to be believed for that. Assumes nothing.
 use Prim.Native.Nat.{ℕ, zero, suc, _+_, _*_, _^_, _≤_, _<_}
 use mathlib.Core.Path.{_≡_, refl, sym}
-use mathlib.Core.Logic.{⊎-elim, _↔_}
+use mathlib.Core.Logic.{_↔_}
 use mathlib.Core.Bool.{Bool, true, false, cond, not, _||_}
 use mathlib.Core.List.{List, []}
 use native.Mathlib.Omega.{arith}
 use lib.Dec.{eqb, leb, ltb}
 use lib.ListN.{length, getD}
 use borrow.Author.Tests.{eqb-true, eqb-false, eq-eqb, leb-true, le-leb, ltb-true, ltb-false, not-true, not-false}
-use Rattle.ranges.specs.Ranges.{some, first}
-use Rattle.ranges.proofs.Bools.{and-left, and-right, decide, clash}
-use Rattle.ranges.proofs.Tests.{some-hit, some-not}
-use Rattle.ranges.proofs.Searches.{found}
+use Rattle.ranges.specs.Ranges.{first}
+use Rattle.ranges.proofs.Bools.{and-left, and-right, clash}
+use Rattle.ranges.proofs.Tests.{some-hit}
+use Rattle.ranges.proofs.Searches.{found, some-first}
 use Rattle.card.specs.Card.{linesOk}
 use Rattle.card.proofs.Cards.{lines-are}
 use Rattle.gates.specs.declared.Gate.{Gate}
 use Rattle.gates.specs.Records.{isRecord}
 use Rattle.tables.specs.Tables.{tooLarge, repeated, firstLarge, firstRepeated}
 use Rattle.cascades.specs.Cascades.{records, ran}
-use Rattle.cascades.specs.Boards.{setOk}
 use Rattle.cascades.specs.Answers.{badRecord, firstBad}
+use Rattle.boards.specs.Boards.{setOk}
 use Rattle.choice.specs.Choice.{firstDifference}
 use Rattle.demands.specs.CardRows.{Places}
 use Rattle.names.specs.Names.{textLines, good, gateNamed, firstWrong}
@@ -49,13 +49,6 @@ row3-places n t =
     least-place (tooLarge (3 ^ n) t) (λ i. 3 ^ n ≤ getD t i 0) (length t) 3 (λ i e. leb-true (3 ^ n) (getD t i 0) e)
     (λ i e le. clash (leb (3 ^ n) (getD t i 0)) (le-leb (3 ^ n) (getD t i 0) le) e)
 
--- where a test passes for some number below m, it does for the first
-some-first : (f : ℕ → Bool) (m : ℕ) → some f 0 m ≡ true → first f 0 m < m
-some-first f m e =
-    ⊎-elim (λ (l : ltb (first f 0 m) m ≡ true). ltb-true (first f 0 m) m l)
-    (λ (l : ltb (first f 0 m) m ≡ false). clash (some f 0 m) e (some-not f 0 m (λ k le lt. found f 0 m .before k le (omega (arith, ltb-false (first f 0 m) m l)))))
-    (decide (ltb (first f 0 m) m))
-
 -- the first entry that equals an earlier one
 pub row4-places : (t : List ℕ) → Places (Repeats t) (length t) (row4 t)
 unfolding firstRepeated
@@ -67,7 +60,7 @@ row4-places t = least-place (repeated t) (Repeats t) (length t) 4 there nowhere
     there : (i : ℕ) → repeated t i ≡ true → Repeats t i
     there i e =
         let j = first (same i) 0 i in
-        let lt : j < i = some-first (same i) i (unfold repeated in e) in
+        let lt : j < i = omega (arith, some-first (same i) 0 i (unfold repeated in e)) in
         record { earlier = j; before = lt; equal = eqb-true (getD t j 0) (getD t i 0) (found (same i) 0 i .hit (omega arith)) }
 
     nowhere : (i : ℕ) → repeated t i ≡ false → Repeats t i → ⊥

@@ -9,12 +9,13 @@ use lib.ListN.{getD}
 use denote.Ref.{RefT, ptr, now}
 use Rattle.card.specs.Card.{Answer, Answer.accepted, Answer.refused, onLines}
 use Rattle.cascades.specs.Cascades.{gatesOf}
-use Rattle.cascades.specs.Boards.{onBoard}
-use Rattle.cascades.specs.Answers.{onRecords, countedAs, ranAs, pricedAs}
+use Rattle.cascades.specs.Answers.{onRecords, countedAs, ranAs}
 use Rattle.tables.specs.declared.Checked.{Checked}
 use Rattle.cascades.specs.declared.Counted.{Counted}
 use Rattle.cascades.specs.declared.Ran.{Ran}
-use Rattle.cascades.specs.declared.Priced.{Priced}
+use Rattle.boards.specs.Boards.{onBoard}
+use Rattle.pricing.specs.Prices.{pricedAs}
+use Rattle.pricing.specs.declared.Priced.{Priced}
 use Rattle.tabulating.specs.declared.Tabulated.{Tabulated}
 use Rattle.tidying.specs.declared.Tidied.{Tidied}
 use Rattle.listings.specs.declared.Listed.{Listed}

@@ -11,9 +11,9 @@ use Rattle.card.proofs.Cards.{not-accepted}
 use Rattle.tables.specs.Tables.{onTable, checkTableAnswer}
 use Rattle.gates.specs.Records.{isRecord, gateAt}
 use Rattle.cascades.specs.Cascades.{records, gatesOf, ran}
-use Rattle.cascades.specs.Boards.{onBoard}
-use Rattle.cascades.specs.Prices.{cascadePrice}
-use Rattle.cascades.specs.Answers.{onRecords, checkAnswer, runAnswer, invertAnswer, invertRoom, priceAnswer}
+use Rattle.cascades.specs.Answers.{onRecords, checkAnswer, runAnswer, invertAnswer, invertRoom}
+use Rattle.boards.specs.Boards.{onBoard}
+use Rattle.pricing.specs.Prices.{cascadePrice, priceAnswer}
 use Rattle.tabulating.specs.Tabulating.{tabulateAnswer, tabulateRoom}
 use Rattle.synthesis.specs.Synthesis.{bound, synthesized, synthesizeAnswer, synthesizeRoom}
 use Rattle.rules.specs.Tidying.{tidied, tidyAnswer, tidyBuffer}

@@ -14,11 +14,11 @@ use Rattle.card.proofs.Cards.{lines-are, after-accepted}
 use Rattle.gates.specs.declared.Gate.{Gate}
 use Rattle.tables.specs.Permutations.{Permutation}
 use Rattle.cascades.specs.Cascades.{records, gateIn, gatesOf, bytesOf, Cascade}
-use Rattle.cascades.specs.Prices.{plainPrice, cascadePrice}
 use Rattle.cascades.proofs.Cascades.{whole-cascade}
 use Rattle.cascades.proofs.Stored.{length-bytes, laid-gates}
 use Rattle.cascades.proofs.Checks.{check-whole}
-use Rattle.cascades.proofs.Costs.{all-fitted}
+use Rattle.pricing.specs.Prices.{plainPrice, cascadePrice}
+use Rattle.pricing.proofs.Costs.{all-fitted}
 use Rattle.synthesis.specs.Synthesis.{bound, synthesized}
 use Rattle.synthesis.proofs.Synthesis.{synthesized-bound}
 use Rattle.rules.specs.Tidying.{tidied, tidyAnswer, tidyBuffer}

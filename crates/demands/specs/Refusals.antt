@@ -12,8 +12,8 @@ use Rattle.gates.specs.Gates.{IsGate}
 use Rattle.gates.specs.Records.{isRecord}
 use Rattle.tables.specs.Tables.{firstLarge, firstRepeated}
 use Rattle.cascades.specs.Cascades.{records, gatesOf}
-use Rattle.cascades.specs.Boards.{setOk}
 use Rattle.cascades.specs.Answers.{lengthOk, firstBad}
+use Rattle.boards.specs.Boards.{setOk}
 use Rattle.choice.specs.Choice.{firstDifference}
 use Rattle.files.specs.Files.{linesIn, recordsOf, frameOk}
 use Rattle.readers.specs.Readers.{recordStands}

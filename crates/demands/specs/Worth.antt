@@ -7,7 +7,7 @@ use lib.ListN.{length, getD}
 use Rattle.gates.specs.declared.Gate.{Gate}
 use Rattle.tables.specs.Permutations.{inverseTable}
 use Rattle.cascades.specs.Cascades.{ran, undoing, Cascade}
-use Rattle.cascades.specs.Prices.{cascadePrice}
+use Rattle.pricing.specs.Prices.{cascadePrice}
 use Rattle.synthesis.specs.Synthesis.{synthesized}
 use Rattle.rules.specs.Rules.{fits}
 use Rattle.rules.specs.Tidying.{gate, isOpen, gatesAndControls, tidied, Repetition}

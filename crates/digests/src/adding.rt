@@ -4,12 +4,12 @@ use crate::sums::Side;
 use crate::sums::Sums;
 use crate::sums::plus;
 use cascades::Counted;
-use cascades::Priced;
+use pricing::Priced;
 use tabulating::Tabulated;
 use tidying::Tidied;
 
 fn cost(lines: u8, value: u8, fitted: u8, cascade: &[u8]) -> u64 {
-    match cascades::price(lines, value, fitted, cascade) {
+    match pricing::price(lines, value, fitted, cascade) {
         Priced::Cost(cost) => cost as u64,
         Priced::Refused {
             number: _,

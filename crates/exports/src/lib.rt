@@ -3,7 +3,8 @@ ghost use mathlib.Core.Path.{_≡_};
 ghost use lib.ListN.{length};
 ghost use Rattle.tables.specs.Tables.{checkTableAnswer};
 ghost use Rattle.synthesis.specs.Synthesis.{synthesizeAnswer, synthesizeRoom};
-ghost use Rattle.cascades.specs.Answers.{checkAnswer, runAnswer, invertAnswer, invertRoom, priceAnswer};
+ghost use Rattle.cascades.specs.Answers.{checkAnswer, runAnswer, invertAnswer, invertRoom};
+ghost use Rattle.pricing.specs.Prices.{priceAnswer};
 ghost use Rattle.tabulating.specs.Tabulating.{tabulateAnswer, tabulateRoom};
 ghost use Rattle.rules.specs.Tidying.{tidyAnswer, tidyBuffer};
 ghost use Rattle.choice.specs.Choice.{chooseAnswer};
@@ -75,7 +76,7 @@ pub extern "C" fn tiles_invert(lines: u8, cascade: &[u8], room: &mut [u8]) -> Nu
 pub extern "C" fn tiles_price(lines: u8, value: u8, fitted: u8, cascade: &[u8]) -> Numbers
     ensures { λ r. ⌜ r ≡ numbers (priceAnswer lines value fitted (now (cascade .entry))) ⌝ }
 {
-    answers::priced(cascades::price(lines, value, fitted, cascade))
+    answers::priced(pricing::price(lines, value, fitted, cascade))
 }
 
 #[no_mangle]

@@ -3,7 +3,7 @@ use Prim.Native.Nat.{ℕ, _+_, _-_, _*_, _%_, _^_, _≤_, _<_}
 use mathlib.Core.Path.{_≡_}
 use mathlib.Core.Bool.{Bool, cond, _||_}
 use lib.Dec.{eqb, ltb}
-use Rattle.ranges.specs.Ranges.{every}
+use Rattle.ranges.specs.Ranges.{every, sum}
 use Rattle.digits.specs.Digits.{digit, put}
 use Rattle.gates.specs.declared.Gate.{Gate}
 
@@ -19,6 +19,10 @@ inverseOp o = cond (ltb o 3) (3 - o) o
 -- the control on line k: its value, or 3 for none. They are packed in base 4, a digit for each of x0 to x5
 abbrev pub control : Gate → ℕ → ℕ
 control g k = digit 4 k (g .controls)
+
+-- how many controls a gate has
+unfoldable pub controlCount : Gate → ℕ
+controlCount g = sum (λ k. cond (eqb (control g k) 3) 0 1) 0 6
 
 -- a control c is content with a line that holds x
 unfoldable pub holds : ℕ → ℕ → Bool

@@ -11,8 +11,8 @@ use Rattle.ranges.specs.Ranges.{every}
 use Rattle.ranges.proofs.Tests.{every-below}
 use Rattle.gates.specs.declared.Gate.{Gate}
 use Rattle.cascades.specs.Cascades.{Cascade}
-use Rattle.cascades.specs.Prices.{cascadePrice}
-use Rattle.cascades.proofs.Costs.{cost-fits}
+use Rattle.pricing.specs.Prices.{cascadePrice}
+use Rattle.pricing.proofs.Costs.{cost-fits}
 use Rattle.texts.specs.Texts.{ascii, width, decimal}
 use Rattle.texts.specs.GateTexts.{gateTexts}
 use Rattle.texts.proofs.Decimals.{length-decimal, width-le}

@@ -6,8 +6,8 @@ use lib.ListN.{length, getD}
 use Rattle.card.specs.Card.{Answer, Answer.accepted, Answer.refused, refusing, onLines, after, laid}
 use Rattle.gates.specs.declared.Gate.{Gate}
 use Rattle.cascades.specs.Cascades.{gatesOf}
-use Rattle.cascades.specs.Prices.{cascadePrice}
 use Rattle.cascades.specs.Answers.{onCascade}
+use Rattle.pricing.specs.Prices.{cascadePrice}
 use Rattle.texts.specs.Texts.{ascii, decimal}
 use Rattle.texts.specs.GateTexts.{gateTexts}
 use Rattle.listings.specs.declared.Listed.{Listed}

@@ -5,7 +5,7 @@ ghost use Rattle.listings.specs.Listings.{listedAs, listingAnswer, listi
 
 mod writing;
 
-use cascades::Priced;
+use pricing::Priced;
 
 // So many bytes of text, written.
 pub enum Listed {
@@ -18,7 +18,7 @@ pub fn listing(lines: u8, cascade: &[u8], room: &mut [u8]) -> Listed
     ensures { λ r. ⌜ listedAs r ≡ listingAnswer lines (now (cascade .entry)) (length (now (room .entry))) ⌝ }
     ensures { λ r. ⌜ now (room .exit) ≡ listingRoom lines (now (cascade .entry)) (now (room .entry)) ⌝ }
 {
-    match cascades::price(lines, 2, 7, cascade) {
+    match pricing::price(lines, 2, 7, cascade) {
         Priced::Refused { number, place } => Listed::Refused { number, place },
         Priced::Cost(cost) => {
             let size = writing::size_listing(lines, cascade, cost);

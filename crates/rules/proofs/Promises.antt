@@ -11,8 +11,8 @@ use Rattle.ranges.proofs.Spans.{span-ext}
 use Rattle.gates.specs.declared.Gate.{Gate}
 use Rattle.gates.specs.Gates.{IsGate}
 use Rattle.cascades.specs.Cascades.{ran, tableFor, tableOf, Cascade}
-use Rattle.cascades.specs.Boards.{isFitted}
-use Rattle.cascades.specs.Prices.{cascadePrice}
+use Rattle.boards.specs.Boards.{isFitted}
+use Rattle.pricing.specs.Prices.{cascadePrice}
 use Rattle.rules.specs.Rules.{fits}
 use Rattle.rules.specs.Tidying.{gate, isOpen, ruled, gatesAndControls, tidied, Repetition}
 use Rattle.rules.proofs.Weights.{priceWith, price-fitted}

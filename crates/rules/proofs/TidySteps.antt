@@ -20,9 +20,8 @@ use Rattle.ranges.proofs.Spans.{length-span, span-each}
 use Rattle.ranges.proofs.Lists.{each-append, total-append, through-append}
 use Rattle.ranges.proofs.Parts.{span-list, span-cut, each-parts, total-ones}
 use Rattle.gates.specs.declared.Gate.{Gate}
-use Rattle.gates.specs.Gates.{applied, inverse, IsGate}
+use Rattle.gates.specs.Gates.{applied, inverse, IsGate, controlCount}
 use Rattle.cascades.specs.Cascades.{ran}
-use Rattle.cascades.specs.Prices.{controlCount}
 use Rattle.rules.specs.Places.{mayChange}
 use Rattle.rules.specs.Rules.{cancels, merges, reduces, fits, loosened, retuned}
 use Rattle.rules.specs.Tidying.{gate, isOpen, fitting, firstJ, firstI, without, ruled, untidy, step, gatesAndControls}

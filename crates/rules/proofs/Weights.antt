@@ -4,19 +4,21 @@
 use mathlib.Core.Path.{_≡_, refl, sym, ap, _∙_}
 use mathlib.Core.Bool.{Bool, true, false, cond, _||_}
 use mathlib.Core.List.{List}
-use Prim.Native.Nat.{ℕ, zero, suc, _+_, _*_, _<_, _≤_}
+use Prim.Native.Nat.{ℕ, suc, _+_, _*_, _<_, _≤_}
 use native.Mathlib.Omega.{arith}
 use lib.Dec.{eqb}
 use borrow.Author.Tests.{eqb-true, ne-eqb}
 use Rattle.ranges.specs.Ranges.{sum}
 use Rattle.ranges.specs.Lists.{total}
+use Rattle.ranges.proofs.Bools.{one-at-most}
 use Rattle.ranges.proofs.Tallies.{sum-change}
 use Rattle.ranges.proofs.Sums.{sum-le}
 use Rattle.gates.specs.declared.Gate.{Gate}
-use Rattle.gates.specs.Gates.{control, inverseOp, inverse, IsGate}
+use Rattle.gates.specs.Gates.{control, inverseOp, inverse, IsGate, controlCount}
 use Rattle.gates.proofs.Operators.{five}
-use Rattle.cascades.specs.Boards.{isFitted}
-use Rattle.cascades.specs.Prices.{base, controlCount, others, plainPrice, gatePrice, cascadePrice}
+use Rattle.boards.specs.Boards.{isFitted}
+use Rattle.pricing.specs.Prices.{base, others, plainPrice, gatePrice, cascadePrice}
+use Rattle.pricing.proofs.Costs.{base-rises}
 use Rattle.rules.specs.Rules.{lineOf, withControl, loosened, retuned}
 use Rattle.rules.proofs.Rules.{Reduction, reduction, third, third-lt, loosened-here, loosened-other, retuned-here, retuned-other, Ruled}
 use Rattle.rules.proofs.Rules.Ruled.{cancel, merge, reduce}
@@ -65,11 +67,7 @@ inverse-count g = refl
 -- a gate has no more controls than there are lines
 pub control-count-le : (g : Gate) → controlCount g ≤ 6
 unfolding controlCount
-control-count-le g = sum-le (λ k. cond (eqb (control g k) 3) 0 1) 1 0 6 (λ k. go (eqb (control g k) 3))
-  where
-    go : (b : Bool) → cond b 0 1 ≤ 1
-    go true = omega arith
-    go false = omega arith
+control-count-le g = sum-le (λ k. cond (eqb (control g k) 3) 0 1) 1 0 6 (λ k. one-at-most (eqb (control g k) 3))
 
 -- a rule leaves no more gates
 pub gates-fall : {g h : Gate} {a b : List Gate} → Ruled g h a b → total (λ x. 1) a + total (λ x. 1) b ≤ 2
@@ -97,22 +95,12 @@ pub price-fitted : (v s : ℕ) (gs : List Gate) → total (priceWith (λ o. cond
 unfolding priceWith cascadePrice gatePrice plainPrice
 price-fitted v s gs = refl
 
-base-grows : (k : ℕ) → base k ≤ base (suc k)
-unfolding base
-base-grows zero = omega arith
-base-grows (suc zero) = omega arith
-base-grows (suc (suc k)) = omega arith
-
 is-other : ℕ → ℕ → ℕ
 is-other v c = cond (eqb c 3 || eqb c v) 0 1
 
 other-le : (v c : ℕ) → is-other v c ≤ 1
 unfolding is-other
-other-le v c = go (eqb c 3 || eqb c v)
-  where
-    go : (b : Bool) → cond b 0 1 ≤ 1
-    go true = omega arith
-    go false = omega arith
+other-le v c = one-at-most (eqb c 3 || eqb c v)
 
 -- of two different values one at least is not the global one
 one-other : (v s t : ℕ) → s < 3 → t < 3 → (s ≡ t → ⊥) → 1 ≤ is-other v s + is-other v t
@@ -134,7 +122,7 @@ others-fall v g h r =
 base-falls : (g h : Gate) → Reduction g h → base (controlCount (loosened g h)) + base (controlCount (retuned g h)) ≤ base (controlCount g) + base (controlCount h)
 base-falls g h r =
     let one : suc (controlCount (loosened g h)) ≡ controlCount g = omega (arith, loosened-count g h r) in
-    omega (arith, base-grows (controlCount (loosened g h)), ap base one, ap base (retuned-count g h r))
+    omega (arith, base-rises (controlCount (loosened g h)), ap base one, ap base (retuned-count g h r))
 
 inverse-others : (v : ℕ) (g : Gate) → others v (inverse g) ≡ others v g
 unfolding others inverse

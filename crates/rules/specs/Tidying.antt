@@ -9,9 +9,8 @@ use Rattle.ranges.specs.Ranges.{every, first}
 use Rattle.ranges.specs.Lists.{total}
 use Rattle.card.specs.Card.{Answer, Answer.accepted, onLines, after}
 use Rattle.gates.specs.declared.Gate.{Gate}
-use Rattle.gates.specs.Gates.{inverse}
+use Rattle.gates.specs.Gates.{inverse, controlCount}
 use Rattle.cascades.specs.Cascades.{records, gatesOf, bytesOf}
-use Rattle.cascades.specs.Prices.{controlCount}
 use Rattle.cascades.specs.Answers.{onCascade}
 use Rattle.rules.specs.Places.{mayChange}
 use Rattle.rules.specs.Rules.{fits, cancels, merges, loosened, retuned}

@@ -8,10 +8,9 @@ use lib.ListN.{length}
 use Rattle.card.specs.Card.{Answer.accepted}
 use Rattle.card.proofs.Cards.{lines-are}
 use Rattle.cascades.specs.Cascades.{gatesOf}
-use Rattle.cascades.specs.Prices.{cascadePrice}
-use Rattle.cascades.specs.Answers.{pricedAs, priceAnswer}
 use Rattle.cascades.proofs.Cascades.{gates-count}
-use Rattle.cascades.proofs.Checks.{HasPrice, price-accepted}
+use Rattle.pricing.specs.Prices.{cascadePrice, pricedAs, priceAnswer}
+use Rattle.pricing.proofs.PriceAnswers.{HasPrice, price-accepted}
 use Rattle.choice.specs.Choice.{secondWins, chooseAnswer}
 use Rattle.choice.proofs.Choices.{choose-first, choose-second, choose-differ, choose-same}
 use borrow.Author.Needs.{needs}

@@ -9,9 +9,10 @@ use Rattle.card.specs.Card.{Answer.accepted, refusing}
 use Rattle.card.proofs.Cards.{refusing-yes, refusing-no, refused-both, accepted-both, sets-laid}
 use Rattle.cascades.specs.Cascades.{records, gatesOf}
 use Rattle.cascades.specs.Inner.Checked.{Whole}
-use Rattle.cascades.specs.Boards.{setOk, onBoard}
-use Rattle.cascades.specs.Answers.{pricedAs, priceAnswer}
-use Rattle.cascades.proofs.Checks.{passed, price-accepted, price-refused}
+use Rattle.cascades.proofs.Checks.{passed}
+use Rattle.boards.specs.Boards.{setOk, onBoard}
+use Rattle.pricing.specs.Prices.{pricedAs, priceAnswer}
+use Rattle.pricing.proofs.PriceAnswers.{price-accepted, price-refused}
 use Rattle.listings.specs.Listings.{listingWith, listingText, listingAnswer, listingRoom}
 use borrow.Author.Needs.{needs}
 use Rattle.listings.proofs.listing.Statement.{statement}

@@ -1,6 +1,6 @@
 -- `exports::answers::priced` meets its contract: the numbers of each case are those that `pricedAs` names. Assumes nothing.
 use mathlib.Core.Path.{ap, sym, _∙_}
-use Rattle.cascades.specs.Answers.{pricedAs}
+use Rattle.pricing.specs.Prices.{pricedAs}
 use Rattle.exports.specs.Numbers.{numbers}
 use borrow.Author.Needs.{needs}
 use Rattle.exports.proofs.answers.priced.Statement.{statement}
