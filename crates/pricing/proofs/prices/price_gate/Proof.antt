@@ -24,9 +24,6 @@ base-price-requires c κs = search needs
 count-others-requires-2 : tie.Need-count-others-requires-2
 count-others-requires-2 c κs = search needs
 
-cast-plain : tie.Need-cast-plain
-cast-plain c = search needs
-
 mul-plain : tie.Need-mul-plain
 mul-plain c = search needs
 
@@ -56,7 +53,6 @@ price-gate-spec =
     count-others-requires
     base-price-requires
     count-others-requires-2
-    cast-plain
     mul-plain
     add-plain
     is-fitted-requires
