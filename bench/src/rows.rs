@@ -15,6 +15,7 @@ use crate::report::{Report, What};
 // cascades of a few entries have none.
 const SYNTHESIS: f64 = 1.3;
 const LONG: f64 = 2.0;
+const PRICING: f64 = 1.2;
 const TIDYING: f64 = 1.0;
 
 pub fn print(report: &mut Report) {
@@ -74,11 +75,10 @@ fn cascades(report: &mut Report) {
     report.line(on("tabulate, drawn gates", drawn), |timer| timer.tabulate(6, drawn));
     report.line(on("tabulate, a synthesized cascade", found), |timer| timer.tabulate(6, found));
     report.line(on("tabulate, gates with no controls", bare), |timer| timer.tabulate(6, bare));
-    // The base price is worked out anew for each gate, as document 01 says.
     for (call, fitted) in
         [("price, drawn gates", ALL_FITTED), ("price, drawn gates, D alone fitted", D_FITTED)]
     {
-        let price = What { aim: None, ..on(call, drawn) };
+        let price = What { aim: Some(PRICING), ..on(call, drawn) };
         report.line(price, |timer| timer.price(6, fitted, drawn));
     }
     report.line(on("invert, drawn gates", drawn), |timer| timer.invert(6, drawn));
@@ -100,9 +100,7 @@ fn texts(report: &mut Report) {
     let table = &drawn_tables(6, 1)[0];
     let found = &synthesized(6, table);
     let hardest = &hardest(6);
-    // A listing has the cost in its head line, so it waits for pricing too.
-    let listing = What { aim: None, ..on("listing, drawn gates", drawn) };
-    report.line(listing, |timer| timer.listing(6, drawn));
+    report.line(on("listing, drawn gates", drawn), |timer| timer.listing(6, drawn));
     report.line(on("listing, a synthesized cascade", found), |timer| timer.listing(6, found));
     let on_table = |call| What { call, lines: 6, size: patterns(6), aim: None };
     report.line(on_table("sheet, a drawn table"), |timer| timer.sheet(6, table));

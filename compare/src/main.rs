@@ -6,14 +6,16 @@
 //! if not said) from a seed (1). It calls both with each, and compares the
 //! answer's number, place and values and every lent byte, with the bytes around
 //! what is lent. It prints how many inputs each call had and what became of them,
-//! starts the program `tiles` on table files, and prints `no difference`; or the first
-//! difference, and ends with status 1. Input k of a seed is always the same, and FIRST
-//! says with which to begin: `compare 1 SEED K` makes input K alone, after the cases.
+//! prices every gate on six lines, starts the program `tiles` on table files, and prints
+//! `no difference`; or the first difference, and ends with status 1. Input k of a seed
+//! is always the same, and FIRST says with which to begin: `compare 1 SEED K` makes input
+//! K alone, after the cases.
 
 #![deny(unsafe_code)]
 
 mod both;
 mod inputs;
+mod prices;
 mod sheets;
 
 use std::process::ExitCode;
@@ -81,6 +83,7 @@ fn compare_all(count: u64, seed: u64, first: u64) -> Result<usize, String> {
         })?;
     }
     tally.print();
+    println!("{}", prices::compare()?);
     println!("{}", sheets::compare(seed)?);
     Ok(listed.len())
 }

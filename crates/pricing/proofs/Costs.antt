@@ -1,10 +1,10 @@
--- Prices: the base price by its cases, how large a price can be, the price of an appended list. `cost-fits` bounds the cost of any cascade,
--- `all-fitted` says which price is document 01's. Assumes nothing.
+-- Prices: how large a price can be, the price of an appended list, a loop that adds prices up. `cost-fits` bounds the cost of any cascade, `all-fitted`
+-- says which price is document 01's. Assumes nothing.
 use mathlib.Core.Path.{_≡_, refl, ap}
 use mathlib.Core.Logic.{_⊎_, ⊎-elim}
 use mathlib.Core.Bool.{Bool, true, false, cond, _||_}
 use mathlib.Core.List.{List, _++_}
-use Prim.Native.Nat.{ℕ, zero, suc, _+_, _-_, _*_, _≤_, _<_}
+use Prim.Native.Nat.{ℕ, zero, suc, _+_, _-_, _≤_, _<_}
 use native.Mathlib.Nat.{add-assoc, add-zero}
 use native.Mathlib.Omega.{arith}
 use lib.Dec.{eqb}
@@ -22,26 +22,6 @@ use Rattle.cascades.specs.Cascades.{gateIn, Cascade}
 use Rattle.boards.specs.Boards.{isFitted}
 use Rattle.boards.proofs.Boards.{fitted-all}
 use Rattle.pricing.specs.Prices.{base, others, plainPrice, gatePrice, cascadePrice}
-use Rattle.pricing.specs.Inner.Pricing.{gateWith}
-
-pub base-small : (k : ℕ) → k < 2 → base k ≡ 1
-unfolding base
-base-small zero lt = refl
-base-small (suc zero) lt = refl
-base-small (suc (suc k)) lt = absurd (omega arith)
-
-pub base-two : (k : ℕ) → k ≡ 2 → base k ≡ 5
-unfolding base
-base-two k e = rw e
-
-pub base-more : (k : ℕ) → 2 < k → base k ≡ 2 * base (k - 1) + 5
-unfolding base
-base-more zero lt = absurd (omega arith)
-base-more (suc zero) lt = absurd (omega arith)
-base-more (suc (suc zero)) lt = absurd (omega arith)
-base-more (suc (suc (suc k))) lt =
-    let e : suc (suc (suc k)) - 1 ≡ suc (suc k) = omega arith in
-    rw e
 
 -- more controls cost no less
 pub base-rises : (k : ℕ) → base k ≤ base (suc k)
@@ -54,11 +34,11 @@ pub base-le : (j k : ℕ) → j ≤ k → base j ≤ base k
 base-le j zero le = (let e : j ≡ 0 = omega arith in rw e (omega arith))
 base-le j (suc k) le = ⊎-elim (λ (q : j ≡ suc k). omega (arith, ap base q)) (λ (l : j < suc k). omega (arith, base-le j k (omega arith), base-rises k)) (here-or-later le)
 
-pub base-six : (k : ℕ) → k ≤ 6 → base k ≤ 155
-base-six k le = rw (unfold-six) at (base-le k 6 le)
+pub base-five : (k : ℕ) → k ≤ 5 → base k ≤ 75
+base-five k le = omega (arith, base-le k 5 le, most)
   where
-    unfold-six : base 6 ≡ 155
-    unfold-six = unfold base in refl
+    most : base 5 ≡ 75
+    most = unfold base in refl
 
 -- no control has the value 3, so the controls are those with another value than 3
 pub count-others : (g : Gate) → others 3 g ≡ controlCount g
@@ -77,17 +57,8 @@ others-le n v g six ok =
     let s = sum-le-but (λ k. cond (eqb (control g k) 3 || eqb (control g k) v) 0 1) 1 0 6 (g .target) (λ k. one-at-most (eqb (control g k) 3 || eqb (control g k) v)) (omega arith) (omega (arith, ok .on-line)) none in
     omega arith
 
--- what its controls cost does not depend on its operator
-pub plain-with : (v o c : ℕ) → base (others 3 (gateWith 0 c)) + 2 * others v (gateWith 0 c) ≡ plainPrice v (gateWith o c)
-plain-with v o c = rw (count-others (gateWith 0 c)) same
-  where
-    same : base (controlCount (gateWith 0 c)) + 2 * others v (gateWith 0 c) ≡ plainPrice v (gateWith o c)
-    same = unfold plainPrice controlCount others in refl
-
--- and the price not on its target
-pub price-of : (v s : ℕ) (g : Gate) → gatePrice v s (gateWith (g .operator) (g .controls)) ≡ gatePrice v s g
-unfolding gatePrice plainPrice controlCount others
-price-of v s g = refl
+pub controls-le : (n : ℕ) (g : Gate) → n ≤ 6 → IsGate n g → controlCount g ≤ 5
+controls-le n g six ok = rw (← count-others g) (others-le n 3 g six ok)
 
 -- a cascade's price is the sum over its parts
 pub price-append : (v s : ℕ) (gs hs : List Gate) → cascadePrice v s (gs ++ hs) ≡ cascadePrice v s gs + cascadePrice v s hs
@@ -107,10 +78,7 @@ price-ends v s b m i cost le = rw (span-ends (gateIn b) m i le, add-zero)
 -- the dearest gate has five controls, none of the global value, and an operator that is not fitted: 75, 10 and 1
 pub price-le : (n v s : ℕ) (g : Gate) → n ≤ 6 → IsGate n g → gatePrice v s g ≤ 86
 unfolding gatePrice plainPrice
-price-le n v s g six ok =
-    let most : base 5 ≡ 75 = unfold base in refl in
-    let five : base (controlCount g) ≤ base 5 = base-le (controlCount g) 5 (rw (← count-others g) (others-le n 3 g six ok)) in
-    omega (arith, others-le n v g six ok, one-at-most (isFitted s (g .operator)))
+price-le n v s g six ok = omega (arith, base-five (controlCount g) (controls-le n g six ok), others-le n v g six ok, one-at-most (isFitted s (g .operator)))
 
 -- so the cost of any cascade fits 32 bits
 pub cost-fits : (n v s : ℕ) (gs : List Gate) → n ≤ 6 → Cascade n gs → cascadePrice v s gs ≤ 688000

@@ -1,1 +1,1 @@
-pub mod Pricing
+pub mod Rates

@@ -7,7 +7,7 @@ ghost use Rattle.cascades.specs.Cascades.{gatesOf};
 ghost use Rattle.cascades.specs.Answers.{onCascade};
 ghost use Rattle.pricing.specs.Prices.{cascadePrice, pricedAs, priceAnswer};
 
-mod prices;
+mod rates;
 
 use gates::Record;
 
@@ -28,23 +28,29 @@ fn price_on(lines: u8, value: u8, fitted: u8, cascade: &[u8]) -> Priced
             place: 0,
         };
     }
-    let m = cascade.len() / 8;
+    let points = rates::half_points(value as u16);
+    let prices = rates::point_prices();
+    let extras = rates::operator_extras(fitted);
     let mut cost: u32 = 0;
-    let mut i: usize = 0;
-    while i < m {
+    let mut at: usize = 0;
+    while gates::ends_by(at, cascade.len()) {
         let Record::Gate {
             operator,
             controls,
             ..
-        } = gates::decode(lines, cascade, 8 * i)
+        } = gates::decode(lines, cascade, at)
         else {
             return Priced::Refused {
                 number: 7,
-                place: i,
+                place: at / 8,
             };
         };
-        cost = cost + prices::price_gate(value, fitted, operator, controls);
-        i = i + 1;
+        // The points of x0, x1 and x2, and those of x3, x4 and x5.
+        let c = controls as usize;
+        let p = points[c % 64] + points[c / 64];
+        let price = prices[p as usize] + extras[operator as usize];
+        cost = cost + price as u32;
+        at = at + 8;
     }
     Priced::Cost(cost)
 }
