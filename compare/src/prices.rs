@@ -3,14 +3,16 @@
 use compare::proved::Library;
 use second::calls::Told;
 use second::cascade;
+use second::cases::all_gates;
+use second::gate::RECORD;
 
 const LIBRARY: Library = Library { null_if_empty: false };
 
 /// Compares what the two say. In words: how many prices there were; or the first
 /// difference.
 pub fn compare() -> Result<String, String> {
-    let gates = all_gates();
-    for gate in &gates {
+    let gates = all_gates(6);
+    for gate in gates.chunks(RECORD) {
         for (value, fitted) in boards() {
             let proved = LIBRARY.price(6, value, fitted, gate);
             let second = cascade::price(6, value, fitted, gate);
@@ -22,29 +24,11 @@ pub fn compare() -> Result<String, String> {
             }
         }
     }
-    Ok(format!("each of {} gates alone costs the same on {} boards", gates.len(), boards().count()))
+    let count = gates.len() / RECORD;
+    Ok(format!("each of {count} gates alone costs the same on {} boards", boards().count()))
 }
 
 /// Each global value with each set.
 fn boards() -> impl Iterator<Item = (u8, u8)> {
     (0..=2).flat_map(|value| (1..=7).map(move |fitted| (value, fitted)))
-}
-
-/// The records of all gates on six lines: an operator, a target, and of each other
-/// line none or a value.
-fn all_gates() -> Vec<[u8; 8]> {
-    let mut gates = vec![];
-    for operator in 1..=5 {
-        for target in 0..6 {
-            for controls in 0..4usize.pow(5) {
-                let mut gate = [operator, target, 3, 3, 3, 3, 3, 3];
-                let others = (0..6).filter(|&line| line != target as usize);
-                for (place, line) in others.enumerate() {
-                    gate[2 + line] = (controls >> (2 * place) & 3) as u8;
-                }
-                gates.push(gate);
-            }
-        }
-    }
-    gates
 }

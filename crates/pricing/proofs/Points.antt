@@ -14,9 +14,8 @@ use Rattle.digits.specs.Digits.{digit}
 use Rattle.digits.proofs.Digits.{digit-low, digit-up}
 use Rattle.gates.specs.declared.Gate.{Gate}
 use Rattle.gates.specs.Gates.{control, IsGate, controlCount}
-use Rattle.boards.specs.Boards.{isFitted}
 use Rattle.pricing.specs.Prices.{base, others, plainPrice, gatePrice}
-use Rattle.pricing.specs.Inner.Rates.{points, pointsOf, pointsPrice}
+use Rattle.pricing.specs.Inner.Rates.{points, pointsOf, pointsPrice, extra}
 use Rattle.pricing.proofs.Costs.{base-five, others-le, controls-le}
 
 -- with a table of the base prices, the price of p points
@@ -65,7 +64,7 @@ points-are v g =
 pub record Rates (v s : ℕ) (points prices extras : List ℕ) : Type 0 where
   pub halves : points ≡ span (pointsOf 3 v) 0 64
   pub priced : prices ≡ span pointsPrice 0 36
-  pub paid : extras ≡ span (λ o. cond (isFitted s o) 0 1) 0 6
+  pub paid : extras ≡ span (extra s) 0 6
 
 -- a gate has five controls at most, so that its points tell both numbers; looked up, they give its price
 module _ (n v s : ℕ) (g : Gate) (six : n ≤ 6) (ok : IsGate n g) (points prices extras : List ℕ) (r : Rates v s points prices extras) where
@@ -84,5 +83,5 @@ module _ (n v s : ℕ) (g : Gate) (six : n ≤ 6) (ok : IsGate n g) (points pric
       let number : (controlCount g + 6 * others v g) % 6 ≡ controlCount g = omega (arith, controls-le n g six ok) in
       let other : (controlCount g + 6 * others v g) / 6 ≡ others v g = omega (arith, controls-le n g six ok) in
       let price = span-at pointsPrice 0 36 (controlCount g + 6 * others v g) 0 (omega (arith, both, points-lt)) in
-      let extra = span-at {A = ℕ} (λ o. cond (isFitted s o) 0 1) 0 6 (g .operator) 0 (omega (arith, ok .op-high)) in
-      rw (both, r .priced, price, r .paid, extra, zero-add (controlCount g + 6 * others v g), zero-add (g .operator), number, other)
+      let more = span-at (extra s) 0 6 (g .operator) 0 (omega (arith, ok .op-high)) in
+      rw (both, r .priced, price, r .paid, more, zero-add (controlCount g + 6 * others v g), zero-add (g .operator), number, other)

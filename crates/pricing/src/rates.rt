@@ -1,11 +1,9 @@
 // What pricing looks up. Each table is made once a call, since the language stores a constant table anew wherever it is used.
 ghost use mathlib.Core.Path.{_≡_};
-ghost use mathlib.Core.Bool.{cond};
 ghost use Prim.Native.Nat.{_≤_, _<_};
 ghost use Rattle.ranges.specs.Ranges.{span};
 ghost use Rattle.digits.specs.Digits.{digit};
-ghost use Rattle.boards.specs.Boards.{isFitted};
-ghost use Rattle.pricing.specs.Inner.Rates.{points, pointsOf, pointsPrice};
+ghost use Rattle.pricing.specs.Inner.Rates.{points, pointsOf, pointsPrice, extra};
 
 // The base price of 0 to 5 controls.
 const BASE: [u8; 6] = [1, 1, 5, 15, 35, 75];
@@ -52,7 +50,7 @@ pub fn point_prices() -> [u8; 36]
 
 // What a gate costs more, by its operator.
 pub fn operator_extras(fitted: u8) -> [u8; 6]
-    ensures { λ r. ⌜ r ≡ span (λ o. cond (isFitted fitted o) 0 1) 0 6 ⌝ }
+    ensures { λ r. ⌜ r ≡ span (extra fitted) 0 6 ⌝ }
 {
     let mut table = [0u8; 6];
     let mut o: usize = 0;

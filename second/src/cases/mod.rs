@@ -18,6 +18,7 @@ mod tidying;
 
 pub use cascades::{RIGHT_RECORD, WRONG_RECORDS};
 pub use making::gates;
+pub use names::all_gates;
 
 use crate::vectors::Case;
 

@@ -264,7 +264,7 @@ fn written_and_read(lines: u8, cascade: &[u8]) -> [Case; 2] {
 }
 
 /// Every gate on so many lines.
-fn all_gates(lines: u8) -> Vec<u8> {
+pub fn all_gates(lines: u8) -> Vec<u8> {
     let lines = lines as usize;
     let mut all = vec![];
     for code in 0..(5 * lines) << (2 * lines) {

@@ -1,23 +1,22 @@
 -- `pricing::rates::operator_extras` meets its contract: up to the loop's place the table has what is paid more. Assumes nothing.
 use mathlib.Core.Path.{_≡_, _∙_}
 use mathlib.Core.Logic.{⊎-elim}
-use mathlib.Core.Bool.{cond}
 use Prim.Native.Nat.{_-_, _<_}
 use native.Mathlib.Omega.{arith}
 use Rattle.ranges.proofs.Fills.{Filling, filling-start, filling-next, filling-end}
-use Rattle.boards.specs.Boards.{isFitted}
+use Rattle.pricing.specs.Inner.Rates.{extra}
 use borrow.Author.Needs.{needs}
 use Rattle.pricing.proofs.rates.operator_extras.Statement.{statement}
 use Rattle.pricing.proofs.rates.operator_extras.Tie as tie
 
 abbrev Inv-loop : tie.InvT-loop
-Inv-loop fitted table₀ o₀ table o = Filling (λ j. cond (isFitted fitted j) 0 1) table₀ table o
+Inv-loop fitted table₀ o₀ table o = Filling (extra fitted) table₀ table o
 
 abbrev μ-loop : tie.MeasureT-loop
 μ-loop fitted table₀ o₀ table o = 6 - o
 
 module _ (c : tie.Joined1 Inv-loop μ-loop) where
-  paid : c .if1 .table ≡ cond (isFitted (c .before .before .before .before .args .fitted) (c .before .before .before .loop .o)) 0 1
+  paid : c .if1 .table ≡ extra (c .before .before .before .before .args .fitted) (c .before .before .before .loop .o)
   paid =
       ⊎-elim (λ w. w .1 ∙ rw (← c .before .is-fitted .ensures, w .0 .taken)) (λ w. w .1 ∙ rw (← c .before .is-fitted .ensures, w .0 .left))
       (c .if1 .came)
