@@ -17,6 +17,9 @@
  *   room     memory lent to be written to.
  *   value    the global control value, 0, 1 or 2: a control of any other value
  *            costs 2 more.
+ *   text     of a table: its entries in decimal without leading zeros, a space or
+ *            a newline behind each and a newline at the end, "1 2 0\n", at most
+ *            65,535 bytes.
  *   fitted   which of D, E and N the board has, at least one: 1 for D, 2 for E
  *            and 4 for N, added, so 7 if it has all. A gate whose operator it
  *            lacks costs 1 more. C1 and C2 are on every board.
@@ -46,6 +49,11 @@
  *       12    a line of a text isn't that of a gate on these
  *             lines                                            first such line
  *       13    the fitted set is 0 or above 7                   0
+ *       14    a byte of a table's text can't stand there, or
+ *             it has the offset 65,535                         its offset
+ *             it shows a number above 65,535                   the offset of
+ *                                                              that number
+ *             the text ends not straight after a newline       its length
  *
  *   Entries, gates, inputs and lines count from 0. The size needed counts whole
  *   records in a room for records, entries in a room for a table, and bytes in
@@ -61,12 +69,14 @@
  *   may be null.
  *
  *   - Memory lent as const is never written.
- *   - A refused call changes no lent byte.
+ *   - A refused call changes no lent byte, but that the reader of a table's text
+ *     keeps the refusal.
  *   - An accepted call writes what its comment says, at the start of the room.
  *     All bytes beyond keep their old content, also the odd ones of a room for
  *     records whose length is no multiple of 8.
  *   - Nothing is kept: after the call the memory is the caller's again. The
- *     calls have no state, allocate nothing and may run in several threads.
+ *     calls have no state but what the caller lends, allocate nothing and may run
+ *     in several threads.
  */
 #ifndef TILES_H
 #define TILES_H
@@ -84,6 +94,7 @@ extern "C" {
 #define TILES_MOST_FOUND 4010    /* records that tiles_synthesize asks on six lines */
 #define TILES_MOST_NOTE 1024     /* bytes of the longest note */
 #define TILES_MOST_FILE 65032    /* bytes of the longest file */
+#define TILES_MOST_TEXT 65535    /* bytes of the longest text of a table */
 #define TILES_MOST_LISTING 248031 /* bytes of the longest listing */
 #define TILES_MOST_NAMES 248000  /* bytes of the longest text that tiles_write_names writes */
 
@@ -198,6 +209,39 @@ struct tiles_answer tiles_read_names(uint8_t lines, const uint8_t *text, size_t 
  * Refusals 1, 6, 7, 5 (bytes). first: the bytes written. */
 struct tiles_answer tiles_write_names(uint8_t lines, const uint8_t *cascade, size_t len,
                                       uint8_t *room, size_t room_len);
+
+/* The reader of a table's text, which comes in parts. The caller keeps it and
+ * lends it to each call, which changes it where it lies. Any content is taken,
+ * but tiles_serial_start makes one that is right. It has 1,472 bytes, and none
+ * of them is padding. */
+struct tiles_serial {
+    uint8_t lines;
+    uint8_t last;           /* the byte that came last; a space at the start */
+    uint8_t over;           /* 0 while the text goes on; then the answer stands */
+    uint8_t number;         /* the refusal that stands, 0 for acceptance */
+    uint16_t place;         /* of the refusal */
+    uint16_t at;            /* the offset of the next byte */
+    uint16_t first;         /* where the number under way begins, or the next one */
+    uint16_t value;         /* the number under way, 0 if there is none */
+    uint16_t count;         /* the numbers so far, up to 730 */
+    uint16_t entries[TILES_MOST_ENTRIES]; /* the first of them */
+};
+
+/* Makes a reader for a table on so many lines, whatever stood there.
+ * Refusal 1, which then stands in the reader. first: 0. */
+struct tiles_answer tiles_serial_start(struct tiles_serial *reader, uint8_t lines);
+
+/* Feeds it the next bytes of the text, or none. However a text is cut, the
+ * answers and the table are those of the whole text in one part. A refusal
+ * stands: each further part, and the end, gets it again.
+ * Refusals 1, 14. first: 0. After the end, what the end answered. */
+struct tiles_answer tiles_serial_part(struct tiles_serial *reader, const uint8_t *part, size_t len);
+
+/* Tells it that the text has ended, and writes the table. Each later call
+ * repeats this answer, whatever it is lent, and changes no table.
+ * Refusals 1, 14, 2, 3, 4, 5 (entries). first: the entries written, 3^n. */
+struct tiles_answer tiles_serial_end(struct tiles_serial *reader, uint16_t *table,
+                                     size_t table_len);
 
 #ifdef __cplusplus
 }

@@ -3,11 +3,12 @@
 use std::hint::black_box;
 use std::time::Duration;
 
-use compare::proved::Library;
+use compare::proved::{Library, Reader};
 use second::answer::{Answer, Refusal};
 use second::calls::Told;
 use second::file::Opening;
 use second::gate::{Gate, RECORD};
+use second::serial::SerialReader;
 use second::{cascade, choice, file, listing, names, sheet, synthesis, table, tabulating, tidying};
 
 use crate::clock::{race, race_changing, race_in_turn, Times};
@@ -17,6 +18,9 @@ const LIBRARY: Library = Library { null_if_empty: false };
 
 /// The second program's call for the gate at a place.
 type Next = fn(&[u8], u8, usize, usize) -> Answer<Option<Gate>>;
+
+/// The second program's call for a part of a text.
+type Part = fn(&mut SerialReader, &[u8]) -> Answer<usize>;
 
 /// The bytes of the longest listing.
 const LONGEST_LISTING: usize = 248_031;
@@ -249,6 +253,57 @@ impl Timer {
         )
     }
 
+    pub fn serial_start(&self, lines: u8) -> [Times; 2] {
+        let mut reader = new_reader();
+        race(
+            self.patience,
+            (),
+            |_| proved(LIBRARY.serial_start(black_box(&mut reader), lines)),
+            |_| second(black_box(SerialReader::start(lines)).answer()) as u64,
+        )
+    }
+
+    /// A reader that is started and then fed a text in parts of so many bytes. Each part is
+    /// one call on either side: the second program's is hidden from the compiler, as the
+    /// library's is.
+    pub fn serial_part(&self, lines: u8, text: &[u8], length: usize) -> [Times; 2] {
+        let mut reader = new_reader();
+        race(
+            self.patience,
+            (),
+            |_| {
+                proved(LIBRARY.serial_start(&mut reader, lines));
+                let parts = text.chunks(length);
+                parts.map(|part| 1 + proved(LIBRARY.serial_part(&mut reader, part))).sum()
+            },
+            |_| {
+                let feed: Part = black_box(SerialReader::part);
+                let mut reader = SerialReader::start(lines);
+                let parts = text.chunks(length);
+                parts.map(|part| 1 + second(feed(&mut reader, part)) as u64).sum()
+            },
+        )
+    }
+
+    /// A table's text from the start to the end; an end alone can't be told twice.
+    pub fn serial_end(&self, lines: u8, text: &[u8]) -> [Times; 2] {
+        let mut reader = new_reader();
+        race(
+            self.patience,
+            vec![0; patterns(lines)],
+            |table| {
+                proved(LIBRARY.serial_start(&mut reader, lines));
+                proved(LIBRARY.serial_part(&mut reader, text));
+                proved(LIBRARY.serial_end(&mut reader, table))
+            },
+            |table| {
+                let mut reader = SerialReader::start(lines);
+                second(reader.part(text));
+                second(reader.end(table)) as u64
+            },
+        )
+    }
+
     pub fn tidy(&self, lines: u8, cascade: &[u8]) -> [Times; 2] {
         race_changing(
             self.patience,
@@ -268,6 +323,11 @@ impl Timer {
 /// Tidies by the proved library.
 pub fn tidy(lines: u8, cascade: &mut [u8]) {
     proved(LIBRARY.tidy(lines, cascade));
+}
+
+/// Memory for a reader.
+fn new_reader() -> Reader {
+    Reader::of([0; Reader::CELLS])
 }
 
 /// The first value of an answer that must be accepted. The number is compared by

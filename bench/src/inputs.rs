@@ -1,4 +1,4 @@
-//! The tables, cascades, files and lists that the calls are timed on.
+//! The tables, their texts, cascades, files and lists that the calls are timed on.
 
 use second::cascade::invert;
 pub use second::cascade::MOST_GATES;
@@ -7,6 +7,7 @@ use second::file::write_file;
 use second::gate::RECORD;
 use second::names::write_names;
 use second::pattern::Lines;
+use second::serial::LONGEST_TEXT;
 use second::synthesis::synthesize;
 
 /// The sets of D, E and N, and of D.
@@ -62,6 +63,29 @@ pub fn table_file(lines: u8, table: &[u16]) -> Vec<u8> {
     let mut file = vec![lines];
     file.extend(table.iter().flat_map(|entry| entry.to_le_bytes()));
     file
+}
+
+/// A table as text, in rows of nine.
+pub fn text_of(table: &[u16]) -> Vec<u8> {
+    let mut text = vec![];
+    for (place, entry) in table.iter().enumerate() {
+        text.extend(entry.to_string().into_bytes());
+        let at_end = place + 1 == table.len() || place % 9 == 8;
+        text.push(if at_end { b'\n' } else { b' ' });
+    }
+    text
+}
+
+/// The texts of drawn tables, one behind the other, as many bytes as a reader takes. At its
+/// end there are far too many numbers.
+pub fn longest_text(lines: u8) -> Vec<u8> {
+    let mut draws = Draws::from_seed(lines as u32);
+    let mut text = vec![];
+    while text.len() < LONGEST_TEXT {
+        text.extend(text_of(&draws.table(lines as usize)));
+    }
+    text.truncate(LONGEST_TEXT);
+    text
 }
 
 // Cascades, files and lists.
@@ -137,6 +161,7 @@ mod tests {
     use super::*;
     use second::choice::choose;
     use second::hard::hardest;
+    use second::serial::SerialReader;
 
     #[test]
     fn the_hardest_table_reaches_the_bound() {
@@ -154,6 +179,20 @@ mod tests {
             assert!(choose(lines, 2, ALL_FITTED, &one, &other).is_ok());
             let mut pairs = one.chunks(RECORD).zip(other.chunks(RECORD));
             assert!(pairs.all(|(one, other)| one != other));
+        }
+    }
+
+    #[test]
+    fn the_texts_are_taken() {
+        for lines in 1..=6 {
+            let mut reader = SerialReader::start(lines);
+            assert_eq!(reader.part(&longest_text(lines)), Ok(0));
+            assert!(reader.part(b"1").is_err());
+            let (table, mut room) = (hardest(lines), vec![0; patterns(lines)]);
+            let mut reader = SerialReader::start(lines);
+            assert_eq!(reader.part(&text_of(&table)), Ok(0));
+            assert_eq!(reader.end(&mut room), Ok(room.len()));
+            assert_eq!(room, table);
         }
     }
 

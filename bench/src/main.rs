@@ -72,7 +72,7 @@ fn print_all() -> bool {
     println!(
         "changes what it reads, gets a new copy for each call, outside the clock. The size is"
     );
-    println!("entries of a table, gates of a cascade, tables, or bytes of a long text.\n");
+    println!("entries of a table, gates of a cascade, tables, or bytes of a text.\n");
     let met = print_rows("", 1);
     growth::print(&Timer { patience: Duration::from_millis(120) });
     program::print() && met

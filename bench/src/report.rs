@@ -9,7 +9,7 @@ use crate::clock::{times, Times};
 pub struct What<'a> {
     pub call: &'a str,
     pub lines: u8,
-    /// Gates of a cascade, entries of a table, tables, or bytes of a long text.
+    /// Gates of a cascade, entries of a table, tables, or bytes of a text.
     pub size: usize,
     pub aim: Option<f64>,
 }

@@ -7,7 +7,8 @@ use second::hard::{hard, hardest};
 
 use crate::inputs::{
     alike, all_tables, bare_cascade, counter, drawn_cascade, drawn_tables, file_of, identity,
-    list_of, patterns, synthesized, there_and_back, ALL_FITTED, D_FITTED, MOST_GATES,
+    list_of, longest_text, patterns, synthesized, text_of, there_and_back, ALL_FITTED, D_FITTED,
+    MOST_GATES,
 };
 use crate::report::{Report, What};
 
@@ -25,6 +26,7 @@ pub fn print(report: &mut Report) {
     files(report);
     texts(report);
     lists(report);
+    serial(report);
     tidying(report);
 }
 
@@ -123,6 +125,24 @@ fn lists(report: &mut Report) {
         let what = What { call, lines: 6, size: text.len(), aim: None };
         report.line(what, |timer| timer.read_names(6, text.as_bytes()));
     }
+}
+
+/// Tables as text: the longest text in parts, and a table's from its start to its end. The
+/// size is in bytes.
+fn serial(report: &mut Report) {
+    let text = &longest_text(6);
+    let what = |call, size, aim| What { call, lines: 6, size, aim };
+    report.line(what("serial_start", 0, None), |timer| timer.serial_start(6));
+    for (call, length, aim) in [
+        ("serial_part, the longest text in one part", text.len(), Some(LONG)),
+        ("serial_part, in parts of 16 bytes", 16, None),
+        ("serial_part, byte by byte", 1, None),
+    ] {
+        report.line(what(call, text.len(), aim), |timer| timer.serial_part(6, text, length));
+    }
+    let table = &text_of(&drawn_tables(6, 1)[0]);
+    let call = "serial_end, a drawn table from its start";
+    report.line(what(call, table.len(), Some(LONG)), |timer| timer.serial_end(6, table));
 }
 
 fn tidying(report: &mut Report) {

@@ -2,7 +2,7 @@
 
 use std::fmt;
 
-use compare::proved::Library;
+use compare::proved::{Library, Reader};
 use second::calls::{Given, Told};
 
 use crate::inputs::Input;
@@ -12,7 +12,7 @@ const GUARD: usize = 16;
 
 /// Something lent, and its guards.
 #[derive(Clone, PartialEq)]
-struct Lent<T> {
+pub struct Lent<T> {
     cells: Vec<T>,
     start: usize,
     end: usize,
@@ -21,7 +21,7 @@ struct Lent<T> {
 impl<T: Copy + PartialEq + fmt::Debug> Lent<T> {
     /// Marks everywhere, and a part of so many cells to be lent. The part's
     /// address varies, so that rooms also start at odd ones.
-    fn room(length: usize, salt: u64, mark: fn(usize, u64) -> T) -> Lent<T> {
+    pub fn room(length: usize, salt: u64, mark: fn(usize, u64) -> T) -> Lent<T> {
         let start = GUARD + (salt >> 60) as usize;
         let end = start + length;
         let cells = (0..end + GUARD).map(|at| mark(at, salt)).collect();
@@ -34,16 +34,16 @@ impl<T: Copy + PartialEq + fmt::Debug> Lent<T> {
         lent
     }
 
-    fn part(&self) -> &[T] {
+    pub fn part(&self) -> &[T] {
         &self.cells[self.start..self.end]
     }
 
-    fn part_mut(&mut self) -> &mut [T] {
+    pub fn part_mut(&mut self) -> &mut [T] {
         &mut self.cells[self.start..self.end]
     }
 
     /// Where the cells differ first, in words.
-    fn difference(&self, other: &Self) -> Option<String> {
+    pub fn difference(&self, other: &Self) -> Option<String> {
         let at = self.cells.iter().zip(&other.cells).position(|(one, other)| one != other)?;
         let place = if at < self.start {
             format!("{} before its start", self.start - at)
@@ -56,11 +56,39 @@ impl<T: Copy + PartialEq + fmt::Debug> Lent<T> {
     }
 }
 
+/// A reader's memory and its guards. It is the proved library's alone: the two keep
+/// different things in mind.
+#[repr(C)]
+#[derive(Clone, PartialEq)]
+pub struct GuardedReader {
+    before: [u16; GUARD],
+    pub reader: Reader,
+    behind: [u16; GUARD],
+}
+
+impl GuardedReader {
+    pub fn of(reader: Reader, salt: u64) -> GuardedReader {
+        let guard = |from| std::array::from_fn(|at| mark_entry(from + at, salt));
+        GuardedReader { before: guard(0), reader, behind: guard(GUARD) }
+    }
+
+    /// Marks everywhere, as before a reader is made.
+    pub fn marked(salt: u64) -> GuardedReader {
+        let cells = std::array::from_fn(|at| mark_entry(2 * GUARD + at, salt));
+        GuardedReader::of(Reader::of(cells), salt)
+    }
+
+    /// Do the guards still stand?
+    pub fn is_guarded(&self, salt: u64) -> bool {
+        *self == GuardedReader::of(self.reader.clone(), salt)
+    }
+}
+
 fn mark_byte(at: usize, salt: u64) -> u8 {
     (at as u64).wrapping_mul(29).wrapping_add(salt) as u8
 }
 
-fn mark_entry(at: usize, salt: u64) -> u16 {
+pub fn mark_entry(at: usize, salt: u64) -> u16 {
     (at as u64).wrapping_mul(10_007).wrapping_add(salt) as u16
 }
 
@@ -71,8 +99,10 @@ struct Memory {
     bytes: Lent<u8>,
     more_bytes: Lent<u8>,
     entries: Lent<u16>,
+    more_entries: Lent<u16>,
     room: Lent<u8>,
     note_room: Lent<u8>,
+    answers: Vec<Told>,
 }
 
 impl Memory {
@@ -85,6 +115,8 @@ impl Memory {
             entries: Lent::room(input.entries, salt(3), mark_entry),
             room: Lent::room(input.room, salt(4), mark_byte),
             note_room: Lent::room(input.note_room, salt(5), mark_byte),
+            more_entries: Lent::room(input.more_entries, salt(6), mark_entry),
+            answers: vec![Told::default(); input.answers()],
         }
     }
 
@@ -100,8 +132,10 @@ impl Memory {
             bytes: self.bytes.part_mut(),
             more_bytes: self.more_bytes.part(),
             entries: self.entries.part_mut(),
+            more_entries: self.more_entries.part_mut(),
             room: self.room.part_mut(),
             note_room: self.note_room.part_mut(),
+            answers: &mut self.answers,
         }
     }
 
@@ -113,6 +147,8 @@ impl Memory {
             ("the room for entries", self.entries.difference(&other.entries)),
             ("the room", self.room.difference(&other.room)),
             ("the room for the note", self.note_room.difference(&other.note_room)),
+            ("the table behind the end", self.more_entries.difference(&other.more_entries)),
+            ("the answers", answers_differ(&self.answers, &other.answers)),
         ];
         all.into_iter().find_map(|(name, place)| place.map(|place| format!("{name}, {place}")))
     }
@@ -123,7 +159,8 @@ pub fn compare(input: &Input) -> Result<Told, String> {
     let library = Library { null_if_empty: input.null_if_empty };
     let mut ours = Memory::of(input);
     let mut theirs = ours.clone();
-    let proved = library.answer(input.call, ours.lend(input));
+    let mut reader = GuardedReader::marked(input.salt);
+    let proved = library.answer(input.call, ours.lend(input), &mut reader.reader);
     let second = input.call.answer(theirs.lend(input));
     if proved != second {
         return Err(format!("proved {}\nsecond {}", words(proved), words(second)));
@@ -132,10 +169,19 @@ pub fn compare(input: &Input) -> Result<Told, String> {
         let place = ours.difference(&theirs).unwrap_or_default();
         return Err(format!("both   {}\nbut in {place}", words(proved)));
     }
+    if !reader.is_guarded(input.salt) {
+        return Err(format!("both   {}\nbut around the reader", words(proved)));
+    }
     Ok(proved)
 }
 
-fn words(answer: Told) -> String {
+/// Which of the calls of a reader is answered otherwise, in words.
+fn answers_differ(ours: &[Told], theirs: &[Told]) -> Option<String> {
+    let at = ours.iter().zip(theirs).position(|(one, other)| one != other)?;
+    Some(format!("call {at}\nproved {}\nsecond {}", words(ours[at]), words(theirs[at])))
+}
+
+pub fn words(answer: Told) -> String {
     let Told { number, place, first, second, third } = answer;
     format!("number {number}, place {place}, values {first} {second} {third}")
 }

@@ -6,16 +6,17 @@
 //! if not said) from a seed (1). It calls both with each, and compares the
 //! answer's number, place and values and every lent byte, with the bytes around
 //! what is lent. It prints how many inputs each call had and what became of them,
-//! prices every gate on six lines, starts the program `tiles` on table files, and prints
-//! `no difference`; or the first difference, and ends with status 1. Input k of a seed
-//! is always the same, and FIRST says with which to begin: `compare 1 SEED K` makes input
-//! K alone, after the cases.
+//! prices every gate on six lines, calls readers that are made up, starts the program
+//! `tiles` on table files, and prints `no difference`; or the first difference, and ends
+//! with status 1. Input k of a seed is always the same, and FIRST says with which to begin:
+//! `compare 1 SEED K` makes input K alone, after the cases.
 
 #![deny(unsafe_code)]
 
 mod both;
 mod inputs;
 mod prices;
+mod readers;
 mod sheets;
 
 use std::process::ExitCode;
@@ -56,7 +57,7 @@ fn main() -> ExitCode {
     }
 }
 
-/// Compares on the listed cases, then on inputs of a seed, then the programs. Tells
+/// Compares on the listed cases, then on inputs of a seed, then the rest. Tells
 /// how many cases were listed, or the first difference in words.
 fn compare_all(count: u64, seed: u64, first: u64) -> Result<usize, String> {
     let mut tally = Tally::default();
@@ -84,6 +85,7 @@ fn compare_all(count: u64, seed: u64, first: u64) -> Result<usize, String> {
     }
     tally.print();
     println!("{}", prices::compare()?);
+    println!("{}", readers::check(seed)?);
     println!("{}", sheets::compare(seed)?);
     Ok(listed.len())
 }
@@ -94,7 +96,7 @@ fn usage() -> ExitCode {
 }
 
 /// The last number on the refusal card.
-const LAST_REFUSAL: usize = 13;
+const LAST_REFUSAL: usize = 14;
 
 /// How many inputs each call had: accepted, then by refusal.
 #[derive(Default)]
@@ -112,6 +114,7 @@ impl Tally {
         self.counts[input.call.number() as usize - 1][number] += 1;
         let gates = match input.call {
             Call::ReadNames => newlines(&input.bytes),
+            Call::Serial => 0,
             _ => input.bytes.len().max(input.more_bytes.len()) / 8,
         };
         self.long[0] += (121..8_000).contains(&gates) as u64;
@@ -151,14 +154,15 @@ impl Tally {
 /// An input in words. Long bytes are cut: the input can be made again.
 fn described(input: &Input) -> String {
     let Input { lines, value, fitted, pattern, place, end, .. } = *input;
-    let Input { entries, room, note_room, null_if_empty, .. } = *input;
+    let Input { entries, more_entries, room, note_room, null_if_empty, .. } = *input;
     let table = &input.table;
     let most = table.len().min(81);
     format!(
         "{}\n  lines {lines}, value {value}, fitted {fitted}, pattern {pattern}, \
          place {place}, end {end}\n  \
          table of {}: {:?}\n  bytes {}\n  more bytes {}\n  \
-         rooms: {entries} entries, {room} bytes, {note_room} bytes for a note; empty as {}",
+         rooms: {entries} entries and {more_entries}, {room} bytes, {note_room} bytes for a \
+         note; empty as {}",
         input.call.name(),
         table.len(),
         &table[..most],

@@ -4,9 +4,41 @@
 #![allow(unsafe_code)]
 
 use second::calls::{Call, Given, Told};
+use second::feeding::{feed, Fed};
+
+/// `struct tiles_serial`, a reader of tables as text. A caller may make up any content.
+#[repr(C)]
+#[derive(Clone, Debug, PartialEq, Eq)]
+pub struct Reader {
+    pub lines: u8,
+    pub last: u8,
+    pub over: u8,
+    pub number: u8,
+    pub place: u16,
+    pub at: u16,
+    pub first: u16,
+    pub value: u16,
+    pub count: u16,
+    pub entries: [u16; 729],
+}
+
+const _: () = assert!(size_of::<Reader>() == 1_472 && align_of::<Reader>() == 2);
+
+impl Reader {
+    /// The numbers of 16 bits that a reader's memory holds.
+    pub const CELLS: usize = size_of::<Reader>() / 2;
+
+    /// The reader that such memory is.
+    pub fn of(cells: [u16; Reader::CELLS]) -> Reader {
+        // Safety: both have the same size, and any bytes are a reader.
+        unsafe { std::mem::transmute(cells) }
+    }
+}
 
 mod c {
     use second::calls::Told;
+
+    use super::Reader;
 
     /// `struct tiles_answer`.
     #[repr(C)]
@@ -114,6 +146,9 @@ mod c {
             room: *mut u8,
             room_len: usize,
         ) -> Answer;
+        pub fn tiles_serial_start(reader: *mut Reader, lines: u8) -> Answer;
+        pub fn tiles_serial_part(reader: *mut Reader, part: *const u8, len: usize) -> Answer;
+        pub fn tiles_serial_end(reader: *mut Reader, table: *mut u16, table_len: usize) -> Answer;
     }
 }
 
@@ -227,10 +262,24 @@ impl Library {
         unsafe { c::tiles_write_names(lines, self.given(cascade), cascade.len(), at, len) }.told()
     }
 
-    /// Calls, and tells the answer in numbers.
-    pub fn answer(self, call: Call, given: Given) -> Told {
+    pub fn serial_start(self, reader: &mut Reader, lines: u8) -> Told {
+        unsafe { c::tiles_serial_start(reader, lines) }.told()
+    }
+
+    pub fn serial_part(self, reader: &mut Reader, part: &[u8]) -> Told {
+        unsafe { c::tiles_serial_part(reader, self.given(part), part.len()) }.told()
+    }
+
+    pub fn serial_end(self, reader: &mut Reader, table: &mut [u16]) -> Told {
+        let (at, len) = (self.lent(table), table.len());
+        unsafe { c::tiles_serial_end(reader, at, len) }.told()
+    }
+
+    /// Calls, and tells the answer in numbers. Only `serial` takes a reader.
+    pub fn answer(self, call: Call, given: Given, reader: &mut Reader) -> Told {
         let Given { lines, value, fitted, pattern, place, end, .. } = given;
         let Given { table, bytes, more_bytes, entries, room, note_room, .. } = given;
+        let Given { more_entries, answers, .. } = given;
         match call {
             Call::CheckTable => self.check_table(lines, table),
             Call::Synthesize => self.synthesize(lines, table, room),
@@ -249,6 +298,27 @@ impl Library {
             Call::Sheet => self.sheet(bytes, room),
             Call::ReadNames => self.read_names(lines, bytes, room),
             Call::WriteNames => self.write_names(lines, bytes, room),
+            Call::Serial => {
+                let (mut lent, tables) = (LentReader(self, reader), [entries, more_entries]);
+                feed(&mut lent, lines, bytes, more_bytes, tables, answers)
+            }
         }
+    }
+}
+
+/// A reader that is lent to the library at each call.
+struct LentReader<'a>(Library, &'a mut Reader);
+
+impl Fed for LentReader<'_> {
+    fn start(&mut self, lines: u8) -> Told {
+        self.0.serial_start(self.1, lines)
+    }
+
+    fn part(&mut self, part: &[u8]) -> Told {
+        self.0.serial_part(self.1, part)
+    }
+
+    fn end(&mut self, table: &mut [u16]) -> Told {
+        self.0.serial_end(self.1, table)
     }
 }

@@ -65,4 +65,9 @@ impl Refusal {
     pub(crate) const fn not_a_fitted_set() -> Self {
         Refusal { number: 13, place: 0 }
     }
+
+    /// A byte that can't stand there, a number too large, or an end.
+    pub(crate) const fn not_in_a_text(offset: usize) -> Self {
+        Refusal { number: 14, place: offset }
+    }
 }

@@ -9,9 +9,11 @@
 use crate::answer::{Answer, Refusal};
 use crate::cascade::{check, invert, price, run};
 use crate::choice::choose;
+use crate::feeding::feed;
 use crate::file::{next, opening, read_file, write_file};
 use crate::listing::listing;
 use crate::names::{read_names, write_names};
+use crate::serial::SerialReader;
 use crate::sheet::sheet;
 use crate::synthesis::synthesize;
 use crate::table::check_table;
@@ -38,6 +40,8 @@ pub enum Call {
     Sheet,
     ReadNames,
     WriteNames,
+    /// All calls of a reader of tables as text, from its start to behind its end.
+    Serial,
 }
 
 /// All that is given or lent to a call. It looks only at what it takes.
@@ -50,16 +54,21 @@ pub struct Given<'a> {
     pub place: usize,
     pub end: usize,
     pub table: &'a [u16],
-    /// The cascade, the first of two, the file, or the list. Tidying changes it.
+    /// The cascade, the first of two, the file, the list, or the text of a table. Tidying
+    /// changes it.
     pub bytes: &'a mut [u8],
-    /// The second cascade, or the note.
+    /// The second cascade, the note, or the lengths of a text's parts.
     pub more_bytes: &'a [u8],
     /// The room for a table.
     pub entries: &'a mut [u16],
+    /// The table that is lent behind the end of a text.
+    pub more_entries: &'a mut [u16],
     /// The room for records, a file or a text.
     pub room: &'a mut [u8],
     /// The room for a note.
     pub note_room: &'a mut [u8],
+    /// The room for what each call of a reader answers.
+    pub answers: &'a mut [Told],
 }
 
 /// An answer as numbers. The number is 0 if the call was accepted; otherwise it
@@ -74,7 +83,7 @@ pub struct Told {
 }
 
 impl Call {
-    pub const ALL: [Call; 17] = [
+    pub const ALL: [Call; 18] = [
         Call::CheckTable,
         Call::Synthesize,
         Call::CheckCascade,
@@ -92,6 +101,7 @@ impl Call {
         Call::Sheet,
         Call::ReadNames,
         Call::WriteNames,
+        Call::Serial,
     ];
 
     pub fn from_number(number: u32) -> Option<Call> {
@@ -121,6 +131,7 @@ impl Call {
             Call::Sheet => "sheet",
             Call::ReadNames => "read_names",
             Call::WriteNames => "write_names",
+            Call::Serial => "serial",
         }
     }
 
@@ -140,6 +151,7 @@ impl Call {
             Call::Next => &[1, 7],
             Call::Sheet => &[5],
             Call::ReadNames => &[1, 12, 6, 5],
+            Call::Serial => &[1, 14, 2, 3, 4, 5],
         }
     }
 
@@ -147,6 +159,7 @@ impl Call {
     pub fn answer(self, given: Given) -> Told {
         let Given { lines, value, fitted, pattern, place, end, .. } = given;
         let Given { table, bytes, more_bytes, entries, room, note_room, .. } = given;
+        let Given { more_entries, answers, .. } = given;
         match self {
             Call::CheckTable => told(check_table(lines, table), |()| [0; 3]),
             Call::Synthesize => told(synthesize(lines, table, room), one),
@@ -179,15 +192,19 @@ impl Call {
             Call::Sheet => told(sheet(bytes, room), one),
             Call::ReadNames => told(read_names(lines, bytes, room), one),
             Call::WriteNames => told(write_names(lines, bytes, room), one),
+            Call::Serial => {
+                let (reader, tables) = (&mut SerialReader::start(0), [entries, more_entries]);
+                feed(reader, lines, bytes, more_bytes, tables, answers)
+            }
         }
     }
 }
 
-fn one(value: usize) -> [usize; 3] {
+pub(crate) fn one(value: usize) -> [usize; 3] {
     [value, 0, 0]
 }
 
-fn told<T>(answer: Answer<T>, values: impl FnOnce(T) -> [usize; 3]) -> Told {
+pub(crate) fn told<T>(answer: Answer<T>, values: impl FnOnce(T) -> [usize; 3]) -> Told {
     match answer {
         Ok(answer) => {
             let [first, second, third] = values(answer).map(|value| value as u64);

@@ -2,7 +2,7 @@
 //!
 //! This is the second of two implementations that share nothing but their
 //! documents. One module stands for each section of document 01, and behind these one
-//! for order 1 of document 02. Order 2, on boards, is part of [`cascade`]:
+//! for each of orders 1 and 4 of document 02. Order 2, on boards, is part of [`cascade`]:
 //!
 //! | module        | section                                                        |
 //! |---------------|----------------------------------------------------------------|
@@ -19,6 +19,7 @@
 //! | [`listing`](mod@listing) | From table to cascade: the printed text             |
 //! | [`sheet`](mod@sheet) | From table to cascade: the program                      |
 //! | [`names`]     | Lists in the other school's names                              |
+//! | [`serial`]    | Tables over the serial lead                                    |
 //!
 //! Every call takes any bytes and any numbers. It answers a value or a
 //! [`Refusal`](answer::Refusal), and a refused call leaves all lent memory as it
@@ -27,10 +28,10 @@
 //! what has one of these types needs no second look.
 //!
 //! The other modules are for comparing this library with the first: [`calls`] has
-//! every call in one shape, [`vectors`] says how test cases are written and what
-//! they print, [`cases`](mod@cases) lists them, [`digests`] sums up many tables and
-//! cascades, [`draws`] and [`hard`] make some of these up, and [`turns`] is what a
-//! reader hands out, in print.
+//! every call in one shape, [`feeding`] those of a reader one after the other,
+//! [`vectors`] says how test cases are written and what they print, [`cases`](mod@cases)
+//! lists them, [`digests`] sums up many tables and cascades, [`draws`] and [`hard`] make
+//! some of these up, and [`turns`] is what a reader hands out, in print.
 
 #![forbid(unsafe_code)]
 
@@ -41,6 +42,7 @@ pub mod cases;
 pub mod choice;
 pub mod digests;
 pub mod draws;
+pub mod feeding;
 pub mod file;
 pub mod gate;
 pub mod hard;
@@ -48,6 +50,7 @@ pub mod listing;
 pub mod names;
 pub mod pattern;
 mod planes;
+pub mod serial;
 pub mod sheet;
 mod standing;
 pub mod synthesis;

@@ -19,16 +19,22 @@
 //!
 //! Bytes given are the record, so often as said, and behind it the bytes stored.
 //! A call that takes a table takes it from the bytes given, two for each entry;
-//! `tabulate` has its room counted in entries, both bytes of each filled.
+//! `tabulate` and `serial` have their room counted in entries, both bytes of each filled.
+//! `serial` is several calls: a text, the bytes given, is fed to a reader in parts, whose
+//! lengths are the second bytes given, and what was answered is asked once more at the end
+//! ([`feed`](crate::feeding::feed)).
 //!
 //! A case prints one line: the call's number, then the answer's number, place
 //! and three values, then digests of the bytes given, the second bytes given,
 //! the room and the note's room as they are after the call. `choose` has no room:
-//! in its place stands what `cheaper` hands back. Numbers are decimal, digests
-//! are eight digits in base 16, single spaces stand between.
+//! in its place stands what `cheaper` hands back. `serial` has no note: in its place
+//! stand the answers of all its calls, each as number, place and first value in eight
+//! bytes each, and then the table that was lent behind the end. Numbers are decimal,
+//! digests are eight digits in base 16, single spaces stand between.
 
-use crate::calls::{Call, Given};
+use crate::calls::{Call, Given, Told};
 use crate::choice::cheaper;
+use crate::feeding::OTHER_CALLS;
 
 /// The most bytes of the bytes given, with the record's, and of the second ones.
 pub const MOST_GIVEN: usize = 65_536;
@@ -71,6 +77,12 @@ impl Digest {
     pub fn and_entries(self, entries: &[u16]) -> Digest {
         entries.iter().fold(self, |digest, entry| digest.and(&entry.to_le_bytes()))
     }
+
+    /// Of an answer count its number, its place and its first value, in eight bytes each.
+    fn and_answers(self, answers: &[Told]) -> Digest {
+        let numbers = answers.iter().flat_map(|told| [told.number, told.place, told.first]);
+        numbers.fold(self, |digest, number| digest.and(&number.to_le_bytes()))
+    }
 }
 
 impl std::fmt::Display for Digest {
@@ -92,7 +104,7 @@ pub struct Case {
     pub more_times: usize,
     pub stored: Vec<u8>,
     pub more_stored: Vec<u8>,
-    /// In bytes, or in entries for `tabulate`.
+    /// In bytes, or in entries for `tabulate` and `serial`.
     pub room: usize,
     pub note_room: usize,
     pub fill: u8,
@@ -144,10 +156,14 @@ impl Case {
         matches!(self.call, Call::CheckTable | Call::Synthesize)
     }
 
+    fn has_room_in_entries(&self) -> bool {
+        matches!(self.call, Call::Tabulate | Call::Serial)
+    }
+
     /// Is nothing larger than a reader has to be ready for?
     pub fn fits(&self) -> bool {
         let (given, more) = (self.bytes().len(), self.more_bytes().len());
-        let most_room = if self.call == Call::Tabulate { MOST_ENTRIES } else { MOST_ROOM };
+        let most_room = if self.has_room_in_entries() { MOST_ENTRIES } else { MOST_ROOM };
         let table_fits = given <= 2 * MOST_ENTRIES && given.is_multiple_of(2);
         given <= MOST_GIVEN
             && more <= MOST_GIVEN
@@ -214,10 +230,12 @@ impl Case {
     /// Calls, and says in a line what came of it.
     pub fn line(&self) -> String {
         let (mut bytes, more_bytes) = (self.bytes(), self.more_bytes());
-        let in_entries = self.call == Call::Tabulate;
+        let in_entries = self.has_room_in_entries();
         let mut entries = vec![257 * self.fill as u16; if in_entries { self.room } else { 0 }];
         let mut room = vec![self.fill; if in_entries { 0 } else { self.room }];
         let mut note_room = vec![self.fill; self.note_room];
+        let mut more_entries = [257 * self.fill as u16; MOST_ENTRIES];
+        let mut answers = vec![Told::default(); more_bytes.len() + OTHER_CALLS];
 
         let told = self.call.answer(Given {
             lines: self.lines,
@@ -230,19 +248,25 @@ impl Case {
             bytes: &mut bytes,
             more_bytes: &more_bytes,
             entries: &mut entries,
+            more_entries: &mut more_entries,
             room: &mut room,
             note_room: &mut note_room,
+            answers: &mut answers,
         });
 
         let room = match self.call {
             Call::Choose => {
                 Digest::of(cheaper(self.lines, self.value, self.fitted, &bytes, &more_bytes))
             }
-            Call::Tabulate => Digest::of_entries(&entries),
+            _ if in_entries => Digest::of_entries(&entries),
             _ => Digest::of(&room),
         };
+        let note = match self.call {
+            Call::Serial => Digest::START.and_answers(&answers).and_entries(&more_entries),
+            _ => Digest::of(&note_room),
+        };
         format!(
-            "{} {} {} {} {} {} {} {} {room} {}\n",
+            "{} {} {} {} {} {} {} {} {room} {note}\n",
             self.call.number(),
             told.number,
             told.place,
@@ -251,7 +275,6 @@ impl Case {
             told.third,
             Digest::of(&bytes),
             Digest::of(&more_bytes),
-            Digest::of(&note_room),
         )
     }
 }

@@ -5,22 +5,25 @@ mod cascades;
 mod files;
 mod lists;
 mod tables;
+mod texts;
 
 use samples::Numbers;
 use second::answer::Answer;
 use second::calls::Call;
+use second::feeding::OTHER_CALLS;
 use second::file::opening;
 use second::listing::listing;
 use second::names::write_names;
 use second::pattern::Lines;
 use second::sheet;
-use second::vectors::Case;
+use second::vectors::{Case, MOST_ENTRIES};
 
 use cascades::{hard_cascade, in_pairs, partner, some_cascade};
 use files::{some_end, some_file, some_place};
 use lists::some_list;
 use tables::some_table;
-pub use tables::some_table_file;
+pub use tables::{permutation, some_table_file};
+use texts::{some_lengths, some_text};
 
 /// A call and all that is given to it. What a call doesn't take is empty or 0.
 #[derive(Clone, Debug)]
@@ -33,12 +36,14 @@ pub struct Input {
     pub place: usize,
     pub end: usize,
     pub table: Vec<u16>,
-    /// The cascade, the first of two, the file, or the list.
+    /// The cascade, the first of two, the file, the list, or the text of a table.
     pub bytes: Vec<u8>,
-    /// The second cascade, or the note.
+    /// The second cascade, the note, or the lengths of a text's parts.
     pub more_bytes: Vec<u8>,
     /// The room for entries, in entries.
     pub entries: usize,
+    /// The table that is lent behind the end of a text, in entries.
+    pub more_entries: usize,
     /// The room for records, a file or a text, in bytes.
     pub room: usize,
     /// The room for a note, in bytes.
@@ -62,6 +67,7 @@ impl Input {
             bytes: vec![],
             more_bytes: vec![],
             entries: 0,
+            more_entries: 0,
             room: 0,
             note_room: 0,
             salt: numbers.next(),
@@ -88,9 +94,21 @@ impl Input {
         }
         match case.call {
             Call::Tabulate => input.entries = case.room,
+            Call::Serial => {
+                input.entries = case.room;
+                input.more_entries = MOST_ENTRIES;
+            }
             _ => input.room = case.room,
         }
         input
+    }
+
+    /// How many answers a reader gives.
+    pub fn answers(&self) -> usize {
+        match self.call {
+            Call::Serial => self.more_bytes.len() + OTHER_CALLS,
+            _ => 0,
+        }
     }
 
     /// A made-up one.
@@ -102,6 +120,7 @@ impl Input {
             Call::ReadFile | Call::Opening | Call::Next => input.take_file(numbers),
             Call::Sheet => input.take_table_file(numbers),
             Call::ReadNames => input.take_list(numbers),
+            Call::Serial => input.take_text(numbers),
             Call::Tidy if numbers.one_in(1_000) => {
                 input.lines = 6;
                 input.bytes = hard_cascade(numbers);
@@ -188,6 +207,15 @@ impl Input {
         self.bytes = some_list(numbers, lines);
         self.lines = said(numbers, lines);
         self.room = around(numbers, 8 * newlines(&self.bytes), 8);
+    }
+
+    fn take_text(&mut self, numbers: &mut Numbers) {
+        let lines = board(numbers);
+        self.bytes = some_text(numbers, lines);
+        self.more_bytes = some_lengths(numbers, self.bytes.len());
+        self.lines = said(numbers, lines);
+        self.entries = around(numbers, 3usize.pow(lines as u32), 1);
+        self.more_entries = numbers.below(MOST_ENTRIES);
     }
 
     fn take_table_file(&mut self, numbers: &mut Numbers) {

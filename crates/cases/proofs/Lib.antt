@@ -1,3 +1,4 @@
 pub mod Holds
 pub mod NamedLines
 pub mod FittedSets
+pub mod SerialCases

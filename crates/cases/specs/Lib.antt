@@ -1,3 +1,4 @@
 pub mod Cases
 pub mod NamedLines
 pub mod FittedSets
+pub mod SerialCases

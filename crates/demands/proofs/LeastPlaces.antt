@@ -2,17 +2,18 @@
 -- no search of a call has to be believed for that. Assumes nothing.
 use Prim.Native.Nat.{ℕ, zero, suc, _+_, _*_, _^_, _≤_, _<_}
 use mathlib.Core.Path.{_≡_, refl, sym}
-use mathlib.Core.Logic.{_↔_}
+use mathlib.Core.Logic.{⊎-elim, _↔_}
 use mathlib.Core.Bool.{Bool, true, false, cond, not, _||_}
 use mathlib.Core.List.{List, []}
 use native.Mathlib.Omega.{arith}
 use lib.Dec.{eqb, leb, ltb}
-use lib.ListN.{length, getD}
+use lib.ListN.{length, getD, take}
 use borrow.Author.Tests.{eqb-true, eqb-false, eq-eqb, leb-true, le-leb, ltb-true, ltb-false, not-true, not-false}
 use Rattle.ranges.specs.Ranges.{first}
 use Rattle.ranges.proofs.Bools.{and-left, and-right, clash}
+use Rattle.ranges.proofs.Counts.{lt-or-le}
 use Rattle.ranges.proofs.Tests.{some-hit}
-use Rattle.ranges.proofs.Searches.{found, some-first}
+use Rattle.ranges.proofs.Searches.{Found, found, some-first}
 use Rattle.card.specs.Card.{linesOk}
 use Rattle.card.proofs.Cards.{lines-are}
 use Rattle.gates.specs.declared.Gate.{Gate}
@@ -23,9 +24,14 @@ use Rattle.cascades.specs.Answers.{badRecord, firstBad}
 use Rattle.boards.specs.Boards.{setOk}
 use Rattle.choice.specs.Choice.{firstDifference}
 use Rattle.demands.specs.CardRows.{Places}
+use Rattle.serials.specs.SerialTexts.{numbersOf, wrongByte, firstWrongByte}
+use Rattle.serials.specs.Grammars.{Begins, SentAs}
+use Rattle.serials.proofs.WrongBytes.{wrong-late}
+use Rattle.serials.proofs.Grammars.{begun, not-begun}
+use Rattle.serials.proofs.TableTexts.{sent-passes, passes-sent}
 use Rattle.names.specs.Names.{textLines, good, gateNamed, firstWrong}
 use Rattle.names.proofs.GoodLines.{good-gate, gate-good}
-use Rattle.demands.specs.Refusals.{row3, row4, row7, row11, row12, row13, Repeats, SubsetNumber, LineOf}
+use Rattle.demands.specs.Refusals.{row3, row4, row7, row11, row12, row13, row14-byte, row14-end, Repeats, SubsetNumber, LineOf}
 
 -- the first number below m that passes a test is the least with the property that the test decides
 least-place : (f : ℕ → Bool) (P : ℕ → Type 0) (m k : ℕ) → ((i : ℕ) → f i ≡ true → P i) → ((i : ℕ) → f i ≡ false → P i → ⊥)
@@ -96,7 +102,39 @@ row12-places n t ok =
     line-of : (l : List ℕ) → good n l ≡ true → LineOf n l
     line-of l e = let h = good-gate n (lines-are n ok .1) l e in record { gate = gateNamed n l; is = h .0; text = sym (h .1) }
 
--- ---- a refusal that has no place
+-- the first byte up to which no text of numbers begins, and any at offset 65,535; of a number that is too large the row's place is the first byte
+pub row14-places : (t : List ℕ) → Places (λ i. i < 65535 → Begins (take (suc i) t) → ⊥) (length t) (record { applies = row14-byte t .applies; number = 14; place = firstWrongByte t })
+unfolding firstWrongByte
+row14-places t =
+    record {
+      least = λ e.
+          let lt = ltb-true w (length t) e in
+          record { inside = lt; has = λ early. not-begun t w lt early (f .hit (omega arith)); none-before = λ j l. begins j l (omega arith) };
+      nowhere = λ e i lt. begins i (omega (arith, ltb-false w (length t) e)) lt;
+    }
+  where
+    w : ℕ
+    w = first (wrongByte t) 0 (length t)
+
+    f : Found (wrongByte t) 0 (0 + length t) w
+    f = found (wrongByte t) 0 (length t)
+
+    early : (i : ℕ) → wrongByte t i ≡ false → i < 65535
+    early i e = ⊎-elim (λ (lt : i < 65535). lt) (λ (le : 65535 ≤ i). clash (wrongByte t i) (wrong-late t i le .0) e) (lt-or-le i 65535)
+
+    begins : (i : ℕ) → i < w → i < length t → (i < 65535 → Begins (take (suc i) t) → ⊥) → ⊥
+    begins i lt in-it none =
+        let right : (j : ℕ) → j < suc i → wrongByte t j ≡ false = λ j le. f .before j (omega arith) (omega arith) in
+        none (early i (right i (omega arith))) (begun t (suc i) (omega arith) right)
+
+-- ---- refusals by what is let through
+
+-- a text gets past 14 exactly if the grammar has it, it ends with a newline and has at most 65,535 bytes; and it has the numbers of no other
+pub row14-grammar : (t : List ℕ) → ((row14-byte t .applies ≡ false) × (row14-end t .applies ≡ false)) ↔ SentAs t (numbersOf t)
+row14-grammar t = (passes-sent t, λ s. sent-passes t (numbersOf t) s .0)
+
+pub sent-once : (t xs : List ℕ) → SentAs t xs → numbersOf t ≡ xs
+sent-once t xs s = sent-passes t xs s .1
 
 -- a set that isn't the number of a non-empty subset of D, E, N
 pub row13-sets : (s : ℕ) → (row13 s .applies ≡ false) ↔ SubsetNumber s

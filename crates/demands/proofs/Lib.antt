@@ -5,3 +5,4 @@ pub mod Three
 pub mod LeastPlaces
 pub mod HandingBack
 pub mod Once
+pub mod SerialLead

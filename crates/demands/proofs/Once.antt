@@ -19,6 +19,7 @@ use Rattle.pricing.specs.declared.Priced.{Priced}
 use Rattle.tabulating.specs.declared.Tabulated.{Tabulated}
 use Rattle.tidying.specs.declared.Tidied.{Tidied}
 use Rattle.listings.specs.declared.Listed.{Listed}
+use Rattle.serials.specs.declared.Told.{Told}
 use Rattle.files.specs.declared.Written.{Written}
 use Rattle.files.specs.declared.ReadBack.{ReadBack}
 use Rattle.files.specs.declared.Extent.{Extent}
@@ -26,6 +27,7 @@ use Rattle.tables.specs.Tables.{checkedAs}
 use Rattle.tabulating.specs.Tabulating.{tabulatedAs}
 use Rattle.tidying.specs.TidyAnswers.{tidiedAs}
 use Rattle.listings.specs.Listings.{listedAs}
+use Rattle.serials.specs.Serials.{toldAs}
 use Rattle.files.specs.Files.{writtenAs, readAs, openingAs, openingAnswer}
 use Rattle.choice.specs.declared.Choice.{Choice}
 use Rattle.choice.specs.Choice.{choiceAs, secondWins, chooseAnswer, Handed}
@@ -127,6 +129,18 @@ listed-once = once listedAs listedOf same
     same : (x : Listed) → listedOf (listedAs x) ≡ x
     same (Listed.Bytes a) = refl
     same (Listed.Refused k p) = refl
+
+-- `serials`
+abbrev toldBack : Answer → Told
+toldBack (accepted vs) = Told.Entries (value vs 0)
+toldBack (refused k p) = Told.Refused k p
+
+pub told-once : (x y : Told) → toldAs x ≡ toldAs y → x ≡ y
+told-once = once toldAs toldBack same
+  where
+    same : (x : Told) → toldBack (toldAs x) ≡ x
+    same (Told.Entries a) = refl
+    same (Told.Refused k p) = refl
 
 -- `files`
 abbrev writtenOf : Answer → Written

@@ -25,8 +25,13 @@ use Rattle.listings.specs.Listings.{listingText, listingAnswer, listingRoom}
 use Rattle.sheets.specs.Sheets.{linesOf, entriesOf, fileAnswer, sheetText, sheetAnswer, sheetRoom}
 use Rattle.texts.specs.GateTexts.{gateTexts}
 use Rattle.names.specs.Names.{otherName, textLines, onText, readNamesAnswer, readNamesRoom, writeNamesAnswer, writeNamesRoom}
+use Rattle.texts.specs.Texts.{joined}
+use Rattle.serials.specs.declared.Serial.{Serial}
+use Rattle.serials.specs.SerialTexts.{numbersOf, onBytes, entriesAnswer, partAnswer, endAnswer}
+use Rattle.serials.specs.Serials.{standing, started, fedAll, ended, endedTable}
+use Rattle.serials.proofs.Cuttings.{cut-part, cut-end, refused-table}
 use Rattle.demands.specs.CardRows.{Row, decided, Exactly, Kept}
-use Rattle.demands.specs.Refusals.{row1, row2, row3, row4, row5, row6, row6-lines, row7, row7-next, row8, row9, row9-note, row10, row12, row13, choiceRows, openingRows}
+use Rattle.demands.specs.Refusals.{row1, row2, row3, row4, row5, row6, row6-lines, row7, row7-next, row8, row9, row9-note, row10, row12, row13, row14-byte, row14-end, choiceRows, openingRows}
 use Rattle.demands.proofs.Decided.{first-refuses, refused-first, none-accepts, accepted-none}
 
 exactly : (rows : List Row) (vs : List ℕ) → Exactly (decided rows (accepted vs)) rows vs
@@ -206,3 +211,22 @@ write-names n b room = exactly (row1 n ∷ row6 b ∷ row7 n b ∷ row5 room (le
 pub write-names-kept : (n : ℕ) (b room : List ℕ) → Kept (writeNamesAnswer n b (length room)) (writeNamesRoom n b room) room
 unfolding writeNamesRoom
 write-names-kept n b room = kept (writeNamesAnswer n b (length room)) _ room
+
+-- ---- the serial lead: the rows are those of the text so far, however it was cut; no part at all is the start
+
+pub serial-part : (n : ℕ) (parts : List (List ℕ)) → Exactly (standing (fedAll (started n) parts)) (row1 n ∷ row14-byte (joined parts) ∷ []) (0 ∷ [])
+serial-part n parts = rw (cut-part n parts) (unfold partAnswer onLines onBytes decided in exactly (row1 n ∷ row14-byte (joined parts) ∷ []) (0 ∷ []))
+
+abbrev endRows : ℕ → List ℕ → ℕ → List Row
+endRows n t room =
+    row1 n ∷ row14-byte t ∷ row14-end t ∷ row2 n (length (numbersOf t)) ∷ row3 n (numbersOf t) ∷ row4 (numbersOf t) ∷ row5 room (3 ^ n) ∷ []
+
+pub serial-end : (n : ℕ) (parts : List (List ℕ)) (room : ℕ)
+    → Exactly (standing (ended (fedAll (started n) parts) room)) (endRows n (joined parts) room) (3 ^ n ∷ [])
+serial-end n parts room =
+    rw (cut-end n parts room) (unfold endAnswer onLines onBytes entriesAnswer onTable decided in exactly (endRows n (joined parts) room) (3 ^ n ∷ []))
+
+-- of any reader, made up or not
+pub serial-end-kept : (r : Serial) (table : List ℕ) → Kept (standing (ended r (length table))) (endedTable r table) table
+unfolding Kept
+serial-end-kept r table = refused-table r table

@@ -19,6 +19,7 @@ use Rattle.files.specs.Files.{linesIn, recordsOf, frameOk}
 use Rattle.readers.specs.Readers.{recordStands}
 use Rattle.texts.specs.GateTexts.{gateText}
 use Rattle.names.specs.Names.{otherName, textLines, firstWrong}
+use Rattle.serials.specs.SerialTexts.{byteBefore, wrongPlace, firstWrongByte}
 use Rattle.demands.specs.CardRows.{Row}
 
 -- lines not 1 to 6
@@ -84,6 +85,14 @@ row12 n t = record { applies = ltb (firstWrong n (textLines t)) (length (textLin
 -- the fitted set isn't a non-empty subset of D, E, N
 abbrev pub row13 : ℕ → Row
 row13 s = record { applies = not (setOk s); number = 13; place = 0 }
+
+-- a byte of a text can't stand there, or shows a number above 65,535: the first such byte, or that number's first
+abbrev pub row14-byte : List ℕ → Row
+row14-byte t = record { applies = ltb (firstWrongByte t) (length t); number = 14; place = wrongPlace t (firstWrongByte t) }
+
+-- a text ends not straight after a newline: its length
+abbrev pub row14-end : List ℕ → Row
+row14-end t = record { applies = not (eqb (byteBefore t (length t)) 10); number = 14; place = length t }
 
 -- 1 10 13, 6 7 of the first, 6 7 of the second, 11
 abbrev pub choiceRows : ℕ → ℕ → ℕ → List ℕ → List ℕ → List Row

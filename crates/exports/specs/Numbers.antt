@@ -5,6 +5,8 @@ use lib.ListN.{getD}
 use Rattle.card.specs.Card.{Answer, Answer.accepted, Answer.refused, number, place, values}
 use Rattle.readers.specs.declared.Given.{Given}
 use Rattle.readers.specs.declared.Turn.{Turn}
+use Rattle.serials.specs.declared.Serial.{Serial}
+use Rattle.serials.specs.Serials.{standing}
 use Rattle.exports.specs.declared.Numbers.{Numbers}
 
 -- number (0 for accepted), place, and the first three values; those that an answer doesn't have are 0
@@ -21,3 +23,7 @@ handedAs (Given.Refused k p) at = refused k p
 
 abbrev pub turnAs : Turn → Answer
 turnAs t = handedAs (t .given) (t .at)
+
+-- what a reader of the serial lead answers
+abbrev pub saidBy : Serial → Numbers
+saidBy r = numbers (standing r)

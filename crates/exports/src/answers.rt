@@ -10,6 +10,7 @@ ghost use Rattle.tidying.specs.TidyAnswers.{tidiedAs};
 ghost use Rattle.choice.specs.Choice.{choiceAs};
 ghost use Rattle.files.specs.Files.{writtenAs, readAs, openingAs};
 ghost use Rattle.listings.specs.Listings.{listedAs};
+ghost use Rattle.serials.specs.Serials.{toldAs};
 ghost use Rattle.exports.specs.Numbers.{numbers, handedAs};
 use super::Numbers;
 use cascades::Counted;
@@ -21,6 +22,7 @@ use files::Written;
 use listings::Listed;
 use pricing::Priced;
 use readers::Given;
+use serials::Told;
 use tables::Checked;
 use tabulating::Tabulated;
 use tidying::Tidied;
@@ -166,5 +168,14 @@ pub fn listed(answer: Listed) -> Numbers
     match answer {
         Listed::Bytes(bytes) => accept(bytes as u64, 0, 0),
         Listed::Refused { number, place } => refuse(number, place),
+    }
+}
+
+pub fn told(answer: Told) -> Numbers
+    ensures { λ r. ⌜ r ≡ numbers (toldAs answer) ⌝ }
+{
+    match answer {
+        Told::Entries(entries) => accept(entries as u64, 0, 0),
+        Told::Refused { number, place } => refuse(number, place),
     }
 }

@@ -13,9 +13,12 @@ ghost use Rattle.readers.specs.Readers.{turnAt};
 ghost use Rattle.listings.specs.Listings.{listingAnswer, listingRoom};
 ghost use Rattle.sheets.specs.Sheets.{sheetAnswer, sheetRoom};
 ghost use Rattle.names.specs.Names.{readNamesAnswer, readNamesRoom, writeNamesAnswer, writeNamesRoom};
-ghost use Rattle.exports.specs.Numbers.{numbers, turnAs};
+ghost use Rattle.serials.specs.Serials.{started, fed, ended, endedTable};
+ghost use Rattle.exports.specs.Numbers.{numbers, turnAs, saidBy};
+use serials::Serial;
 
 mod answers;
+pub mod serial;
 
 // struct tiles_answer
 #[repr(C)]
@@ -169,4 +172,36 @@ pub extern "C" fn tiles_write_names(lines: u8, cascade: &[u8], room: &mut [u8]) 
     ensures { λ r. ⌜ now (room .exit) ≡ writeNamesRoom lines (now (cascade .entry)) (now (room .entry)) ⌝ }
 {
     answers::listed(names::write_names(lines, cascade, room))
+}
+
+// The reader of the serial lead is lent, and changed where it lies.
+#[no_mangle]
+pub extern "C" fn tiles_serial_start(reader: &mut Serial, lines: u8) -> Numbers
+    ensures { λ r. ⌜ now (reader .exit) ≡ started lines ⌝ }
+    ensures { λ r. ⌜ r ≡ saidBy (started lines) ⌝ }
+{
+    let said = serial::start(lines);
+    *reader = said.reader;
+    said.numbers
+}
+
+#[no_mangle]
+pub extern "C" fn tiles_serial_part(reader: &mut Serial, part: &[u8]) -> Numbers
+    ensures { λ r. ⌜ now (reader .exit) ≡ fed (now (reader .entry)) (now (part .entry)) ⌝ }
+    ensures { λ r. ⌜ r ≡ saidBy (fed (now (reader .entry)) (now (part .entry))) ⌝ }
+{
+    let said = serial::part(*reader, part);
+    *reader = said.reader;
+    said.numbers
+}
+
+#[no_mangle]
+pub extern "C" fn tiles_serial_end(reader: &mut Serial, table: &mut [u16]) -> Numbers
+    ensures { λ r. ⌜ now (reader .exit) ≡ ended (now (reader .entry)) (length (now (table .entry))) ⌝ }
+    ensures { λ r. ⌜ r ≡ saidBy (ended (now (reader .entry)) (length (now (table .entry)))) ⌝ }
+    ensures { λ r. ⌜ now (table .exit) ≡ endedTable (now (reader .entry)) (now (table .entry)) ⌝ }
+{
+    let said = serial::end(*reader, table);
+    *reader = said.reader;
+    said.numbers
 }

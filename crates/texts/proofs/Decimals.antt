@@ -4,21 +4,21 @@ use mathlib.Core.Path.{_≡_, refl, sym, ap, _∙_}
 use mathlib.Core.Bool.{Bool, true, false}
 use mathlib.Core.Logic.{⊎-elim}
 use mathlib.Core.List.{List, [], _∷_, _++_}
-use Prim.Native.Nat.{ℕ, suc, _+_, _-_, _/_, _%_, _^_, _≤_, _<_}
-use native.Mathlib.Nat.{zero-add, div-eq-of-lt, div-lt-iff-lt-mul, one-le-pow}
+use Prim.Native.Nat.{ℕ, zero, suc, _+_, _-_, _*_, _/_, _%_, _^_, _≤_, _<_}
+use native.Mathlib.Nat.{zero-add, pow-succ', div-eq-of-lt, div-lt-iff-lt-mul, one-le-pow}
 use native.Mathlib.Numerals.{add-one}
 use native.Mathlib.Omega.{arith}
 use lib.Dec.{ltb}
 use lib.ListN.{length, set}
 use lib.Seq.{sets}
-use borrow.Author.Tests.{lt-ltb, ltb-true, ltb-false}
+use borrow.Author.Tests.{lt-ltb, le-ltb, ltb-true, ltb-false}
 use Rattle.ranges.specs.Ranges.{first, span}
 use Rattle.ranges.proofs.Bools.{clash, decide}
-use Rattle.ranges.proofs.Searches.{Found, found, first-more, first-hit, first-ends}
-use Rattle.ranges.proofs.Spans.{length-span, span-snoc}
+use Rattle.ranges.proofs.Searches.{Found, found, found-unique, first-more, first-hit, first-ends}
+use Rattle.ranges.proofs.Spans.{length-span, span-none, span-cons, span-ext, span-snoc}
 use Rattle.ranges.proofs.Stores.{sets-before}
 use Rattle.digits.specs.Digits.{digit}
-use Rattle.digits.proofs.Digits.{shift-digit, shift-next}
+use Rattle.digits.proofs.Digits.{digit-zero, digit-suc, shift-digit, shift-next}
 use Rattle.texts.specs.Texts.{width, decimal}
 
 -- ---- how many digits
@@ -100,3 +100,57 @@ byte-stored x w room at rest j e =
     rw (shift-digit 10 (w - (j + 1)) x rest e)
     (sets-before (span (byteOf x w) 0 j) (byteOf x w j ∷ []) room at (at + j) (rw (length-span (byteOf x w) 0 j))
     ∙ ap (λ (l : List ℕ). sets room at l) (sym s ∙ ap (span (byteOf x w) 0) (sym (add-one j))))
+
+-- ---- one digit more
+
+-- a number below ten is its digit
+pub decimal-one : (d : ℕ) → d < 10 → decimal d ≡ (0x30 + d) ∷ []
+unfolding decimal
+decimal-one d lt =
+    rw (width-small d lt)
+    (span-cons (byteOf d 1) 0 0 ∙ rw (span-none (byteOf d 1) (0 + 1)) (ap (λ (x : ℕ). (0x30 + x) ∷ []) (digit-zero 10 d ∙ omega (arith, lt))))
+
+module _ (x d : ℕ) (some : x ≡ 0 → ⊥) (low : d < 10) (few : width x < 20) where
+  abbrev longer : ℕ
+  longer = 10 * x + d
+
+  cut : longer / 10 ≡ x
+  cut = omega (arith, low)
+
+  wider : width longer ≡ suc (width x)
+  wider =
+      found-unique (enough longer) 1 20 (width longer) (suc (width x)) (width-found longer)
+      (record {
+        from = omega arith;
+        within = omega arith;
+        before = λ k le lt. le-ltb longer (10 ^ k) (small k le lt);
+        hit = λ lt. lt-ltb longer (10 ^ suc (width x)) (large (ltb-true x (10 ^ width x) (width-found x .hit few)));
+      })
+    where
+      large : x < 10 ^ width x → longer < 10 ^ suc (width x)
+      large lt = rw pow-succ' (omega (arith, lt, low))
+
+      small : (k : ℕ) → 1 ≤ k → k < suc (width x) → 10 ^ k ≤ longer
+      small zero le lt = absurd (omega arith)
+      small (suc zero) le lt = omega arith
+      small (suc (suc k)) le lt =
+          let more : 10 ^ suc k ≤ x = ltb-false x (10 ^ suc k) (width-found x .before (suc k) (omega arith) (omega arith)) in
+          rw pow-succ' (omega (arith, more))
+
+  -- a number that is not 0 and one digit more are the number's digits and that one
+  pub decimal-more : decimal (10 * x + d) ≡ decimal x ++ ((0x30 + d) ∷ [])
+  unfolding decimal
+  decimal-more =
+      rw wider
+      (span-snoc (byteOf longer (suc (width x))) 0 (width x)
+      ∙ rw (span-ext (byteOf longer (suc (width x))) (byteOf x (width x)) 0 (width x) (λ i _ lt. same i (omega (arith, lt))), last))
+    where
+      same : (i : ℕ) → i < width x → byteOf longer (suc (width x)) i ≡ byteOf x (width x) i
+      same i lt =
+          let k : suc (width x) - (i + 1) ≡ suc (width x - (i + 1)) = omega arith in
+          rw (k, digit-suc 10 (width x - (i + 1)) longer, cut)
+
+      last : byteOf longer (suc (width x)) (0 + width x) ≡ 0x30 + d
+      last =
+          let k : suc (width x) - (0 + width x + 1) ≡ 0 = omega arith in
+          rw (k, digit-zero 10 longer) (omega (arith, low))

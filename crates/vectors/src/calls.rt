@@ -1,6 +1,7 @@
 // The calls, each by the function that C callers get, and what is shown of them.
 use crate::heads::StoredCase;
 use crate::lines::print_case;
+use crate::serial::show_serial;
 use exports::Numbers;
 use fingerprints::EMPTY;
 use fingerprints::digest_bytes;
@@ -11,9 +12,9 @@ pub fn takes_table(call: u32) -> bool {
     call == 1 || call == 2
 }
 
-// tabulate, whose room is one for entries.
+// tabulate and serial, whose room is one for entries.
 pub fn takes_entries(call: u32) -> bool {
-    call == 5
+    call == 5 || call == 18
 }
 
 // What a call answers whose room is one for bytes.
@@ -87,13 +88,7 @@ pub fn show_call(
 }
 
 // The same of tabulate.
-pub fn show_tabulate(
-    case: StoredCase,
-    bytes: &[u8],
-    more: &[u8],
-    entries: &mut [u16],
-    note: &[u8],
-) {
+fn show_tabulate(case: StoredCase, bytes: &[u8], more: &[u8], entries: &mut [u16], note: &[u8]) {
     print_case(
         case.call,
         exports::tiles_tabulate(case.lines, bytes, entries),
@@ -102,4 +97,19 @@ pub fn show_tabulate(
         digest_entries(EMPTY, entries),
         digest_bytes(EMPTY, note),
     );
+}
+
+// The same of the calls whose room is one for entries; serial has no note.
+pub fn show_call_with_entries(
+    case: StoredCase,
+    bytes: &[u8],
+    more: &[u8],
+    entries: &mut [u16],
+    note: &[u8],
+) {
+    if case.call == 5 {
+        show_tabulate(case, bytes, more, entries, note);
+    } else {
+        show_serial(case, bytes, more, entries);
+    }
 }

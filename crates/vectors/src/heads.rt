@@ -48,6 +48,11 @@ fn join_words(low: u32, high: u32) -> usize {
     low as usize + 0x1_0000_0000 * high as usize
 }
 
+// An entry of a room before the call: the fill twice, 0x101 times it.
+pub fn fill_entry(fill: u8) -> u16 {
+    0x101 * fill as u16
+}
+
 // The case that a head tells, if each number is within its range; what it has of bytes and rooms is held to the buffers where they are.
 pub fn find_case(head: &[u8]) -> ParsedHead
     requires { ⌜ 72 ≤ length (now head) ⌝ }
@@ -59,7 +64,7 @@ pub fn find_case(head: &[u8]) -> ParsedHead
     let pattern = read_u32(head, 4);
     let fill = read_u32(head, 11);
     if call < 1
-        || call > 17
+        || call > 18
         || lines > 255
         || value > 255
         || fitted > 255

@@ -4,6 +4,7 @@ mod given;
 mod heads;
 mod lines;
 mod rooms;
+mod serial;
 
 use heads::ParsedHead;
 

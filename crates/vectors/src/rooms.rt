@@ -1,5 +1,6 @@
 // The rooms that a call writes to, each byte of them as the case says.
 use crate::calls;
+use crate::heads;
 use crate::heads::StoredCase;
 
 // Lends as much of them as the case says, if there is as much.
@@ -40,7 +41,7 @@ fn lend_entries(
     if in_entries > entries.len() || in_note > note.len() {
         return false;
     }
-    calls::show_tabulate(
+    calls::show_call_with_entries(
         case,
         bytes,
         more,
@@ -57,10 +58,9 @@ fn show_with_bytes(case: StoredCase, table: &[u16], bytes: &mut [u8], more: &[u8
     lend_bytes(case, table, bytes, more, &mut room, &mut note)
 }
 
-// An entry is the fill twice, 0x101 times it.
 fn show_with_entries(case: StoredCase, bytes: &[u8], more: &[u8]) -> bool {
-    let pair = 0x101 * case.fill as u16;
-    let mut entries = [pair; 1024];
+    let entry = heads::fill_entry(case.fill);
+    let mut entries = [entry; 1024];
     let note = [case.fill; 2048];
     lend_entries(case, bytes, more, &mut entries, &note)
 }

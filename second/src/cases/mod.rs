@@ -1,8 +1,9 @@
 //! The cases that every other program has to answer alike: each refusal of each
 //! call from both sides of its edge, the order of refusals, the documents'
 //! examples and printed tables, damaged and cut files, made-up readers, boards with
-//! any operators fitted, and some drawn tables and cascades. A part stands for each
-//! family of calls. A new one goes to the end, so that the others keep their fills.
+//! any operators fitted, texts that come in parts, and some drawn tables and cascades. A
+//! part stands for each family of calls. A new one goes to the end, so that the others
+//! keep their fills.
 
 mod boards;
 mod cascades;
@@ -12,6 +13,7 @@ mod long_tidying;
 mod making;
 mod names;
 mod published;
+mod serial;
 mod tables;
 mod texts;
 mod tidying;
@@ -24,7 +26,7 @@ use crate::vectors::Case;
 
 /// The cases, always the same and in the same order.
 pub fn cases() -> Vec<Case> {
-    let parts: [fn() -> Vec<Case>; 32] = [
+    let parts: [fn() -> Vec<Case>; 40] = [
         tables::tables,
         tables::rooms_for_synthesis,
         cascades::lines_of_cascades,
@@ -57,6 +59,14 @@ pub fn cases() -> Vec<Case> {
         boards::dearest_gates,
         boards::choices_by_set,
         boards::drawn_on_boards,
+        serial::boards_of_texts,
+        serial::forms_of_texts,
+        serial::bytes_of_texts,
+        serial::damaged_texts,
+        serial::tables_as_text,
+        serial::rooms_for_texts,
+        serial::counts_of_numbers,
+        serial::longest_texts,
     ];
     let mut cases: Vec<_> = parts.into_iter().flat_map(|part| part()).collect();
     for (place, case) in cases.iter_mut().enumerate() {

@@ -8,7 +8,7 @@ use second::file::{next, opening, Reader};
 use second::table::check_table;
 
 use crate::calls::{
-    invert, listing, read_file, read_names, sheet, synthesize, tabulate, tidy, write_file,
+    invert, listing, read_file, read_names, serial, sheet, synthesize, tabulate, tidy, write_file,
     write_names,
 };
 
@@ -51,6 +51,16 @@ fn some_list(numbers: &mut Numbers) -> Vec<u8> {
     text
 }
 
+/// Bytes that are now and then the text of a table.
+fn some_text(numbers: &mut Numbers) -> Vec<u8> {
+    let texts = ["0 1 2\n", "2\n0 1\n", "8 7 6\n5 4 3\n0 1 2\n", "0 1 65535\n", "1", "007\n"];
+    let mut text = numbers.pick(&texts).as_bytes().to_vec();
+    for _ in 0..numbers.below(3) {
+        numbers.edit(&mut text);
+    }
+    text
+}
+
 fn some_lines(numbers: &mut Numbers) -> u8 {
     if numbers.below(10) == 0 {
         numbers.byte()
@@ -70,7 +80,7 @@ fn some_place(numbers: &mut Numbers) -> usize {
 #[test]
 fn nothing_panics_and_nothing_else_changes() {
     let mut numbers = Numbers::from_seed(21);
-    let mut accepted = [0; 16];
+    let mut accepted = [0; 17];
     for _ in 0..60_000 {
         let (one, other) = (some_bytes(&mut numbers), some_bytes(&mut numbers));
         let lines = some_lines(&mut numbers);
@@ -80,6 +90,8 @@ fn nothing_panics_and_nothing_else_changes() {
         let pattern = numbers.next() as u16 >> numbers.below(16);
         let (place, end) = (some_place(&mut numbers), some_place(&mut numbers));
         let list = some_list(&mut numbers);
+        let text = some_text(&mut numbers);
+        let (start, end_of_text) = text.split_at(numbers.below(text.len() + 1));
         let (kept_one, kept_other) = (one.clone(), other.clone());
 
         let results = [
@@ -99,6 +111,7 @@ fn nothing_panics_and_nothing_else_changes() {
             Reader::open(&one).next().is_ok(),
             read_names(lines, &list, room).is_ok(),
             write_names(lines, &one, room).is_ok(),
+            serial(lines, &[start, end_of_text], room).is_ok(),
         ];
         accepted.iter_mut().zip(results).for_each(|(count, result)| *count += result as u32);
         let part = cheaper(lines, value, fitted, &one, &other);

@@ -5,6 +5,7 @@
 
 use second::answer::Answer;
 use second::file::Contents;
+use second::serial::SerialReader;
 use second::tidying::Tidied;
 
 /// Marks that no call writes in this order.
@@ -85,6 +86,43 @@ pub fn tabulate(lines: u8, cascade: &[u8], room: usize) -> Answer<Vec<u16>> {
         }
         Err(refusal) => {
             assert_eq!(lent, before, "a refused call changed its room");
+            Err(refusal)
+        }
+    }
+}
+
+/// A text in parts, and a table of so many entries. What is answered once is answered again,
+/// to a part and to an end with any table.
+pub fn serial(lines: u8, parts: &[&[u8]], room: usize) -> Answer<Vec<u16>> {
+    let before: Vec<u16> = (0..room).map(|k| (k * 7 + 1_000) as u16).collect();
+    let mut reader = SerialReader::start(lines);
+    let mut so_far = reader.answer();
+    for part in parts {
+        let answer = reader.part(part);
+        assert_eq!(answer, if so_far.is_ok() { answer } else { so_far }, "a refusal stays");
+        assert!(answer.is_err() || answer == Ok(0));
+        so_far = answer;
+    }
+    let mut lent = before.clone();
+    let answer = reader.end(&mut lent);
+    assert_eq!(answer, if so_far.is_ok() { answer } else { so_far }, "a refusal stays");
+    // A table that has no room, and one that has.
+    for room in [0, 3usize.pow(lines.min(6) as u32)] {
+        let mut table = vec![9; room];
+        assert_eq!(reader.end(&mut table), answer);
+        assert!(table.iter().all(|&entry| entry == 9), "a table lent after the end");
+        for part in [&b""[..], b"0 1 2\n", b"x"] {
+            assert_eq!(reader.part(part), answer);
+        }
+    }
+    match answer {
+        Ok(entries) => {
+            assert_eq!(lent[entries..], before[entries..], "entries beyond the table");
+            lent.truncate(entries);
+            Ok(lent)
+        }
+        Err(refusal) => {
+            assert_eq!(lent, before, "a refused end changed its table");
             Err(refusal)
         }
     }

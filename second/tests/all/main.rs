@@ -24,6 +24,7 @@ mod program;
 mod published;
 mod refusals;
 mod refusals_of_files;
+mod serial;
 mod steps;
 mod synthesis;
 mod tidying;

@@ -79,7 +79,7 @@ fn assert_no_other_file_reads(bytes: [u8; 79]) {
     assert_eq!(read_cases(&[&bytes[..], &[0]].concat()), None);
     // No such call, a number too large for its place, more than there is room for.
     for (place, value) in
-        [(4, 0), (4, 18), (9, 1), (13, 1), (17, 1), (22, 1), (26, 1), (43, 1), (47, 1), (49, 1)]
+        [(4, 0), (4, 19), (9, 1), (13, 1), (17, 1), (22, 1), (26, 1), (43, 1), (47, 1), (49, 1)]
     {
         let mut wrong = bytes;
         wrong[place] = value;
@@ -92,7 +92,7 @@ fn the_cases_read_as_written_and_are_the_same_each_time() {
     let file = write_cases(&cases());
     assert_eq!(read_cases(&file), Some(cases()));
     assert!(cases().iter().all(Case::fits));
-    assert!(file.len() < 1_700_000);
+    assert!(file.len() < 2_050_000);
     assert_eq!(lines(&cases()).lines().count(), cases().len());
 }
 
@@ -109,7 +109,7 @@ fn every_answer_of_every_call_is_there() {
         assert_eq!(of_call, call.refusals().len() + 1);
     }
     assert_eq!(Call::from_number(0), None);
-    assert_eq!(Call::from_number(18), None);
+    assert_eq!(Call::from_number(19), None);
 }
 
 #[test]
@@ -179,6 +179,49 @@ fn a_line_tells_entries_the_chosen_one_and_gates() {
     let controls = 3 + 4 * (2 + 4 * (3 + 4 * (3 + 4 * (3 + 4 * 3))));
     assert_eq!(numbers(&reader), [13, 0, 0, 1, 8, 4 + 65_536 * controls]);
     assert_eq!(numbers(&Case { place: 1, ..reader }), [13, 0, 0, 0, 1, 0]);
+}
+
+#[test]
+fn a_line_tells_what_a_text_gets_from_its_start_to_behind_its_end() {
+    // In parts of three bytes, of none, and the rest.
+    let text = b"1 0\n2\n";
+    let case = Case {
+        lines: 1,
+        stored: text.to_vec(),
+        more_stored: vec![3, 0],
+        room: 4,
+        fill: 9,
+        ..Case::new(Call::Serial)
+    };
+    let [given, more] = [Digest::of(text), Digest::of(&[3, 0])];
+    let note = |told: &[[u64; 3]]| {
+        let numbers = told.as_flattened().iter().flat_map(|number| number.to_le_bytes());
+        Digest::of(&numbers.chain([9; 2_048]).collect::<Vec<_>>())
+    };
+    // The start and three parts; the end, a part and an end.
+    let all = note(&[[0; 3], [0; 3], [0; 3], [0; 3], [0, 0, 3], [0, 0, 3], [0, 0, 3]]);
+    let room = Digest::of(&[1, 0, 0, 0, 2, 0, 9, 9]);
+    assert_eq!(case.line(), format!("18 0 0 3 0 0 {given} {more} {room} {all}\n"));
+
+    // A table too small; the last one is not.
+    let short = Case { room: 2, ..case.clone() };
+    let all = note(&[[0; 3], [0; 3], [0; 3], [0; 3], [5, 3, 0], [5, 3, 0], [5, 3, 0]]);
+    let room = Digest::of(&[9; 4]);
+    assert_eq!(short.line(), format!("18 5 3 0 0 0 {given} {more} {room} {all}\n"));
+
+    // Lengths that are more than the text has; a byte that can't stand there, in the second.
+    let wrong = Case { stored: b"1 0x".to_vec(), more_stored: vec![2, 200, 1], ..case.clone() };
+    let [given, more] = [Digest::of(b"1 0x"), Digest::of(&[2, 200, 1])];
+    let wrong_at = [14, 3, 0];
+    let all = note(&[&[[0; 3], [0; 3]][..], &[wrong_at; 6]].concat());
+    let room = Digest::of(&[9; 8]);
+    assert_eq!(wrong.line(), format!("18 14 3 0 0 0 {given} {more} {room} {all}\n"));
+
+    // No such board.
+    let none = Case { lines: 7, more_stored: vec![], ..case };
+    let [given, more] = [Digest::of(text), Digest::START];
+    let all = note(&[[1, 0, 0]; 5]);
+    assert_eq!(none.line(), format!("18 1 0 0 0 0 {given} {more} {room} {all}\n"));
 }
 
 #[test]
@@ -273,6 +316,31 @@ fn the_edges_of_boards_are_there() {
     });
     let chosen: Vec<_> = choices.map(|case| (case.fitted, numbers(&case)[3])).collect();
     assert_eq!(chosen, [(1, 1), (2, 2), (3, 2), (4, 1), (5, 1), (6, 2), (7, 2)]);
+}
+
+#[test]
+fn the_edges_of_texts_are_there() {
+    for lines in 1..=6 {
+        let entries = 3u64.pow(lines);
+        assert!(answering(Call::Serial, 0).contains(&[18, 0, 0, entries, 0, 0]));
+        assert!(answering(Call::Serial, 5).contains(&[18, 5, entries, 0, 0, 0]));
+        for number in [3, 4] {
+            let last = [18, number, entries - 1, 0, 0, 0];
+            assert!(answering(Call::Serial, number).contains(&last), "{number} on {lines} lines");
+        }
+    }
+    for place in [0, 1, 65_529, 65_530, 65_534, 65_535] {
+        assert!(answering(Call::Serial, 14).contains(&[18, 14, place, 0, 0, 0]), "{place}");
+    }
+    // The longest text, and those around it, whole and byte by byte.
+    let lengths = |by_bytes: bool| {
+        let of_call = cases().into_iter().filter(|case| case.call == Call::Serial);
+        let cut_so = of_call.filter(move |case| case.more_bytes().ends_with(&[1; 256]) == by_bytes);
+        cut_so.map(|case| case.bytes().len()).collect::<HashSet<_>>()
+    };
+    for length in [65_534, 65_535, 65_536] {
+        assert!(lengths(true).contains(&length) && lengths(false).contains(&length));
+    }
 }
 
 #[test]

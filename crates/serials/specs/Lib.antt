@@ -1,0 +1,3 @@
+pub mod SerialTexts
+pub mod Grammars
+pub mod Serials
