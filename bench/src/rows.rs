@@ -133,12 +133,13 @@ fn serial(report: &mut Report) {
     let text = &longest_text(6);
     let what = |call, size, aim| What { call, lines: 6, size, aim };
     report.line(what("serial_start", 0, None), |timer| timer.serial_start(6));
-    for (call, length, aim) in [
-        ("serial_part, the longest text in one part", text.len(), Some(LONG)),
-        ("serial_part, in parts of 16 bytes", 16, None),
-        ("serial_part, byte by byte", 1, None),
+    for (call, length) in [
+        ("serial_part, the longest text in one part", text.len()),
+        ("serial_part, in parts of 16 bytes", 16),
+        ("serial_part, byte by byte", 1),
     ] {
-        report.line(what(call, text.len(), aim), |timer| timer.serial_part(6, text, length));
+        let what = what(call, text.len(), Some(LONG));
+        report.line(what, |timer| timer.serial_part(6, text, length));
     }
     let table = &text_of(&drawn_tables(6, 1)[0]);
     let call = "serial_end, a drawn table from its start";

@@ -16,6 +16,7 @@ ghost use Rattle.names.specs.Names.{readNamesAnswer, readNamesRoom, writeNamesA
 ghost use Rattle.serials.specs.Serials.{started, fed, ended, endedTable};
 ghost use Rattle.exports.specs.Numbers.{numbers, turnAs, saidBy};
 use serials::Serial;
+use serials::scanning;
 
 mod answers;
 pub mod serial;
@@ -190,9 +191,9 @@ pub extern "C" fn tiles_serial_part(reader: &mut Serial, part: &[u8]) -> Numbers
     ensures { λ r. ⌜ now (reader .exit) ≡ fed (now (reader .entry)) (now (part .entry)) ⌝ }
     ensures { λ r. ⌜ r ≡ saidBy (fed (now (reader .entry)) (now (part .entry))) ⌝ }
 {
-    let said = serial::part(*reader, part);
-    *reader = said.reader;
-    said.numbers
+    let scan = scanning::read(reader.scan, part, &mut reader.entries);
+    reader.scan = scan;
+    serial::standing(scan)
 }
 
 #[no_mangle]

@@ -2,7 +2,7 @@
 -- text. Assumes nothing.
 use mathlib.Core.Path.{_≡_, refl, sym, ap, ap₂, _∙_}
 use mathlib.Core.Logic.{_⊎_, ⊎-elim}
-use mathlib.Core.Bool.{Bool, true, false, cond}
+use mathlib.Core.Bool.{true, false, cond}
 use mathlib.Core.List.{List, [], _∷_, _++_}
 use Prim.Native.Nat.{ℕ, zero, suc, _+_, _≤_, _<_, min}
 use native.Mathlib.Numerals.{add-one}
@@ -16,11 +16,10 @@ use Rattle.ranges.proofs.Counts.{lt-or-le, here-or-later, one-more}
 use Rattle.card.specs.Card.{linesOk}
 use Rattle.serials.specs.declared.Scan.{Scan}
 use Rattle.serials.specs.declared.Serial.{Serial}
-use Rattle.serials.specs.SerialTexts.{isDigit, isMark, withDigit, follows, byteBefore, numberTo, numberStart, numbersTo, canStand, wrongByte, wrongPlace}
+use Rattle.serials.specs.SerialTexts.{isDigit, isMark, withDigit, byteBefore, numberTo, numberStart, numbersTo, canStand, wrongByte, wrongPlace}
 use Rattle.serials.specs.Serials.{serial, stopped, digitTaken, markTaken, stepped, kept, opened, started, fed}
-use Rattle.serials.proofs.SerialTexts.{follows-digit}
-use Rattle.serials.proofs.WrongBytes.{before-next, number-digit, start-digit, numbers-digit, number-mark, start-mark, numbers-mark, stands, wrong-late, wrong-stray, wrong-large, right}
-use Rattle.serials.proofs.Serials.{step-late, step-stray, step-mark, step-large, step-digit, kept-none, kept-one, after-byte, fed-more, fed-ends, fed-over}
+use Rattle.serials.proofs.WrongBytes.{before-next, number-digit, start-digit, numbers-digit, number-mark, start-mark, numbers-mark, wrong-stray, stands-digit, wrong-large, right}
+use Rattle.serials.proofs.Serials.{comes, step-stray, step-mark, step-large, step-digit, kept-none, kept-one, after-byte, fed-more, fed-ends, fed-over}
 
 -- two lists are alike as far as both go
 abbrev pub Alike : List ℕ → List ℕ → Type 0
@@ -72,9 +71,6 @@ module _ (n : ℕ) (t : List ℕ) (k : ℕ) (r : Serial) (g : Goes n t k r) wher
   abbrev b : ℕ
   b = getD t k 0
 
-  abbrev follow : Bool
-  follow = follows (byteBefore t k) (numberTo t k) b
-
   abbrev next : Serial
   next = after-byte r b
 
@@ -94,7 +90,7 @@ module _ (n : ℕ) (t : List ℕ) (k : ℕ) (r : Serial) (g : Goes n t k r) wher
       rw (e, kept-none s (digitTaken s b (withDigit (s .value) b)) (r .entries) (omega arith))
       (record {
         lines = g .lines;
-        on = refl;
+        on = g .on;
         at = omega (arith, g .at);
         last = sym (before-next t k);
         value = rw (number-digit t k d, g .value);
@@ -123,7 +119,7 @@ module _ (n : ℕ) (t : List ℕ) (k : ℕ) (r : Serial) (g : Goes n t k r) wher
       let q = numbers-mark t k m in
       record {
         lines = g .lines;
-        on = refl;
+        on = g .on;
         at = omega (arith, g .at);
         last = sym (before-next t k);
         value = sym (number-mark t k m);
@@ -162,38 +158,32 @@ module _ (n : ℕ) (t : List ℕ) (k : ℕ) (r : Serial) (g : Goes n t k r) wher
           let within : i < length before = omega (arith, g .count, g .size) in
           g .entries i small within ∙ sym (List·getD-append before (numberTo t k ∷ []) 0 i within)))
 
-  can-here : follow ≡ true → follows (s .last) (s .value) b ≡ true
-  can-here e = rw (g .last, g .value) e
+  -- what the reader says of byte k is what the text says
+  seen : comes s b ≡ canStand t k
+  unfolding canStand
+  seen = rw (g .at, g .last, g .value)
 
   pub reads-next : Reads n t (suc k) next
   reads-next =
-      ⊎-elim early
-      (λ (le : 65535 ≤ k). _⊎_.inr (sticks k (step-late s b (g .on) (omega (arith, g .at)) ∙ ap (stopped s 14) (g .at)) (wrong-late t k le)))
-      (lt-or-le k 65535)
+      ⊎-elim right-byte
+      (λ (e : canStand t k ≡ false). _⊎_.inr (sticks k (step-stray s b (g .on) (seen ∙ e) ∙ ap (stopped s 14) (g .at)) (wrong-stray t k e)))
+      (decide (canStand t k))
     where
-      early : k < 65535 → Reads n t (suc k) next
-      early lt =
-          let lt′ : s .at < 65535 = omega (arith, g .at) in
-          ⊎-elim
-          (λ (f : follow ≡ true).
-          ⊎-elim (λ (m : isMark b ≡ true). _⊎_.inl (ends m (stands t k lt f) (step-mark s b (g .on) lt′ (can-here f) m)))
-          (λ (m : isMark b ≡ false). digits lt lt′ f m) (decide (isMark b)))
-          (λ (f : follow ≡ false).
-          _⊎_.inr (sticks k (step-stray s b (g .on) lt′ (rw (g .last, g .value) f) ∙ ap (stopped s 14) (g .at)) (wrong-stray t k lt f)))
-          (decide follow)
+      right-byte : canStand t k ≡ true → Reads n t (suc k) next
+      right-byte can =
+          ⊎-elim (λ (m : isMark b ≡ true). _⊎_.inl (ends m can (step-mark s b (g .on) (seen ∙ can) m))) right-digit (decide (isMark b))
         where
-          digits : k < 65535 → s .at < 65535 → follow ≡ true → isMark b ≡ false → Reads n t (suc k) next
-          digits lt lt′ f m =
-              let d = follows-digit (byteBefore t k) (numberTo t k) b f m in
-              let can = stands t k lt f in
+          right-digit : isMark b ≡ false → Reads n t (suc k) next
+          right-digit m =
+              let d = stands-digit t k can m in
               let v : withDigit (s .value) b ≡ withDigit (numberTo t k) b = ap (λ (x : ℕ). withDigit x b) (g .value) in
               ⊎-elim
               (λ (large : 65535 < withDigit (numberTo t k) b).
               _⊎_.inr
-              (sticks (numberStart t k) (step-large s b (g .on) lt′ (can-here f) m (rw v large) ∙ ap (stopped s 14) (g .first))
+              (sticks (numberStart t k) (step-large s b (g .on) (seen ∙ can) m (rw v large) ∙ ap (stopped s 14) (g .first))
               (wrong-large t k can (rw (number-digit t k d) large))))
               (λ (small : withDigit (numberTo t k) b ≤ 65535).
-              _⊎_.inl (grows d can small (step-digit s b (g .on) lt′ (can-here f) m (rw v small))))
+              _⊎_.inl (grows d can small (step-digit s b (g .on) (seen ∙ can) m (rw v small))))
               (lt-or-le 65535 (withDigit (numberTo t k) b))
 
 -- ---- the whole text

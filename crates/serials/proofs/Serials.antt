@@ -1,7 +1,7 @@
 -- The equations of a reader's definitions, as its code meets them: one byte, case by case; a number kept; a part, one byte at a time; parts one after the
 -- other. Assumes nothing.
 use mathlib.Core.Path.{_≡_, refl, _∙_}
-use mathlib.Core.Bool.{Bool, true, false, cond}
+use mathlib.Core.Bool.{Bool, true, false, cond, _&&_}
 use mathlib.Core.List.{List, [], _∷_, _++_}
 use Prim.Native.Nat.{ℕ, _+_, _≤_, _<_}
 use native.Mathlib.Numerals.{add-one}
@@ -19,33 +19,32 @@ use Rattle.serials.specs.Serials.{serial, stopped, digitTaken, markTaken
 -- ---- one byte
 
 module _ (s : Scan) (b : ℕ) where
+  -- it can stand there
+  abbrev pub comes : Bool
+  comes = ltb (s .at) 65535 && follows (s .last) (s .value) b
+
   pub step-over : (s .over ≡ 0 → ⊥) → stepped s b ≡ s
   unfolding stepped
   step-over ne = rw (ne-eqb (s .over) 0 ne)
 
   module _ (on : s .over ≡ 0) where
-    pub step-late : 65535 ≤ s .at → stepped s b ≡ stopped s 14 (s .at)
+    pub step-stray : comes ≡ false → stepped s b ≡ stopped s 14 (s .at)
     unfolding stepped
-    step-late le = rw (eq-eqb (s .over) 0 on, le-ltb (s .at) 65535 le)
+    step-stray cannot = rw (eq-eqb (s .over) 0 on, cannot)
 
-    module _ (early : s .at < 65535) where
-      pub step-stray : follows (s .last) (s .value) b ≡ false → stepped s b ≡ stopped s 14 (s .at)
+    module _ (can : comes ≡ true) where
+      pub step-mark : isMark b ≡ true → stepped s b ≡ markTaken s b
       unfolding stepped
-      step-stray cannot = rw (eq-eqb (s .over) 0 on, lt-ltb (s .at) 65535 early, cannot)
+      step-mark m = rw (eq-eqb (s .over) 0 on, can, m)
 
-      module _ (can : follows (s .last) (s .value) b ≡ true) where
-        pub step-mark : isMark b ≡ true → stepped s b ≡ markTaken s b
+      module _ (m : isMark b ≡ false) where
+        pub step-large : 65535 < withDigit (s .value) b → stepped s b ≡ stopped s 14 (s .first)
         unfolding stepped
-        step-mark m = rw (eq-eqb (s .over) 0 on, lt-ltb (s .at) 65535 early, can, m)
+        step-large lt = rw (eq-eqb (s .over) 0 on, can, m, lt-ltb 65535 (withDigit (s .value) b) lt)
 
-        module _ (m : isMark b ≡ false) where
-          pub step-large : 65535 < withDigit (s .value) b → stepped s b ≡ stopped s 14 (s .first)
-          unfolding stepped
-          step-large lt = rw (eq-eqb (s .over) 0 on, lt-ltb (s .at) 65535 early, can, m, lt-ltb 65535 (withDigit (s .value) b) lt)
-
-          pub step-digit : withDigit (s .value) b ≤ 65535 → stepped s b ≡ digitTaken s b (withDigit (s .value) b)
-          unfolding stepped
-          step-digit le = rw (eq-eqb (s .over) 0 on, lt-ltb (s .at) 65535 early, can, m, le-ltb 65535 (withDigit (s .value) b) le)
+        pub step-digit : withDigit (s .value) b ≤ 65535 → stepped s b ≡ digitTaken s b (withDigit (s .value) b)
+        unfolding stepped
+        step-digit le = rw (eq-eqb (s .over) 0 on, can, m, le-ltb 65535 (withDigit (s .value) b) le)
 
 -- ---- a number that was counted
 

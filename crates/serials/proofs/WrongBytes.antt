@@ -3,10 +3,12 @@ use mathlib.Core.Path.{_≡_, refl}
 use mathlib.Core.Bool.{true, false}
 use mathlib.Core.List.{List, [], _∷_, _++_}
 use Prim.Native.Nat.{ℕ, suc, _≤_, _<_}
+use lib.Dec.{ltb}
 use lib.ListN.{getD}
 use borrow.Author.Tests.{lt-ltb, le-ltb}
+use Rattle.ranges.proofs.Bools.{and-right}
 use Rattle.serials.specs.SerialTexts.{isDigit, isMark, withDigit, follows, byteBefore, numberTo, numberStart, numbersTo, canStand, wrongByte, wrongPlace}
-use Rattle.serials.proofs.SerialTexts.{digit-unmarked, mark-no-digit}
+use Rattle.serials.proofs.SerialTexts.{digit-unmarked, mark-no-digit, follows-digit}
 
 module _ (t : List ℕ) (i : ℕ) where
   abbrev b : ℕ
@@ -51,17 +53,17 @@ module _ (t : List ℕ) (i : ℕ) where
   stands early can = rw (lt-ltb i 65535 early, can)
 
   -- it cannot stand there: its place is i
-  stray : canStand t i ≡ false → (wrongByte t i ≡ true) × (wrongPlace t i ≡ i)
+  pub wrong-stray : canStand t i ≡ false → (wrongByte t i ≡ true) × (wrongPlace t i ≡ i)
   unfolding wrongByte wrongPlace
-  stray e = (rw e, rw e)
+  wrong-stray e = (rw e, rw e)
 
   pub wrong-late : 65535 ≤ i → (wrongByte t i ≡ true) × (wrongPlace t i ≡ i)
-  wrong-late le = stray (unfold canStand in rw (le-ltb i 65535 le))
-
-  pub wrong-stray : i < 65535 → follows (byteBefore t i) (numberTo t i) b ≡ false → (wrongByte t i ≡ true) × (wrongPlace t i ≡ i)
-  wrong-stray early cannot = stray (unfold canStand in rw (lt-ltb i 65535 early, cannot))
+  wrong-late le = wrong-stray (unfold canStand in rw (le-ltb i 65535 le))
 
   module _ (can : canStand t i ≡ true) where
+    pub stands-digit : isMark b ≡ false → isDigit b ≡ true
+    stands-digit m = follows-digit (byteBefore t i) (numberTo t i) b (and-right (ltb i 65535) _ (unfold canStand in can)) m
+
     -- it shows a number that is too large: its place is that number's first byte
     pub wrong-large : 65535 < numberTo t (suc i) → (wrongByte t i ≡ true) × (wrongPlace t i ≡ numberStart t i)
     unfolding wrongByte wrongPlace

@@ -42,13 +42,13 @@ stopped s k p =
 -- a digit makes the number under way x
 unfoldable pub digitTaken : Scan → ℕ → ℕ → Scan
 digitTaken s b x =
-    record { lines = s .lines; last = b; over = 0; number = s .number; place = s .place; at = s .at + 1; first = s .first; value = x; count = s .count }
+    record { lines = s .lines; last = b; over = s .over; number = s .number; place = s .place; at = s .at + 1; first = s .first; value = x; count = s .count }
 
 -- a mark ends it, and it is counted, up to 730
 unfoldable pub markTaken : Scan → ℕ → Scan
 markTaken s b =
     let m = cond (ltb (s .count) 730) (s .count + 1) (s .count) in
-    record { lines = s .lines; last = b; over = 0; number = s .number; place = s .place; at = s .at + 1; first = s .at + 1; value = 0; count = m }
+    record { lines = s .lines; last = b; over = s .over; number = s .number; place = s .place; at = s .at + 1; first = s .at + 1; value = 0; count = m }
 
 -- a byte that cannot stand there, a mark, a digit that shows a number above 65,535, and any other digit
 unfoldable pub stepped : Scan → ℕ → Scan

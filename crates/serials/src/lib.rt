@@ -6,7 +6,7 @@ ghost use denote.Ref.{now};
 ghost use Rattle.serials.specs.Serials.{reply, started, fed, ended, endedTable};
 
 mod closing;
-mod scanning;
+pub mod scanning;
 
 // Where a reader is in its text, and the answer that stands. over is 0 while the text goes on; then number and place are a refusal, or number is 0 and the count
 // numbers were accepted as entries. last is the byte that came last, a space at the start; at is the offset of the next one; value is the number under way, 0

@@ -1,9 +1,10 @@
 // A reader's numbers, byte by byte.
 ghost use mathlib.Core.Path.{_≡_};
 ghost use denote.Ref.{now};
-ghost use Prim.Native.Nat.{_<_};
+ghost use mathlib.Core.Bool.{_&&_};
+ghost use lib.Dec.{ltb};
 ghost use Rattle.serials.specs.SerialTexts.{isDigit, isMark, follows};
-ghost use Rattle.serials.specs.Serials.{serial, toldOf, stopped, digitTaken, markTaken, stepped, kept, opened, fed};
+ghost use Rattle.serials.specs.Serials.{serial, toldOf, stopped, stepped, kept, opened, fed};
 use crate::Scan;
 use crate::Told;
 
@@ -76,54 +77,49 @@ fn can_follow(last: u8, value: u16, b: u8) -> bool
     is_digit(b) && value != 0
 }
 
-// The byte is a digit of the number under way, which it makes `value`.
-fn take_digit(before: Scan, b: u8, value: u16) -> Scan
-    requires { ⌜ (before .over ≡ 0) × (before .at < 65535) ⌝ }
-    ensures { λ r. ⌜ r ≡ digitTaken before b value ⌝ }
+// Whether it can come next: no byte can at offset 65,535.
+fn can_stand(s: Scan, b: u8) -> bool
+    ensures { λ r. ⌜ r ≡ ltb (s .at) 65535 && follows (s .last) (s .value) b ⌝ }
 {
-    let mut s = before;
-    s.last = b;
-    s.at = before.at + 1;
-    s.value = value;
-    s
+    s.at < 65535 && can_follow(s.last, s.value, b)
 }
 
-// The byte ends the number under way.
-fn take_mark(before: Scan, b: u8) -> Scan
-    requires { ⌜ (before .over ≡ 0) × (before .at < 65535) ⌝ }
-    ensures { λ r. ⌜ r ≡ markTaken before b ⌝ }
-{
-    let mut s = before;
-    s.last = b;
-    s.at = before.at + 1;
-    s.first = before.at + 1;
-    s.value = 0;
-    if before.count < 730 {
-        s.count = before.count + 1;
-    }
-    s
-}
-
+// All the numbers change in this one function: a smaller one would leave some alone, which the compiler then copies as one word and takes apart for each byte.
 fn step(s: Scan, b: u8) -> Scan
     ensures { λ r. ⌜ r ≡ stepped s b ⌝ }
 {
     if s.over != 0 {
         return s;
     }
-    if 65535 <= s.at {
-        return stop(s, 14, s.at);
+    let mut next = s;
+    if !can_stand(s, b) {
+        next.over = 1;
+        next.number = 14;
+        next.place = s.at;
+        return next;
     }
-    if !can_follow(s.last, s.value, b) {
-        return stop(s, 14, s.at);
-    }
+    let at = s.at + 1;
     if is_mark(b) {
-        return take_mark(s, b);
+        next.last = b;
+        next.at = at;
+        next.first = at;
+        next.value = 0;
+        if s.count < 730 {
+            next.count = s.count + 1;
+        }
+        return next;
     }
     let value = 10 * (s.value as u32) + ((b - b'0') as u32);
     if 65535 < value {
-        return stop(s, 14, s.first);
+        next.over = 1;
+        next.number = 14;
+        next.place = s.first;
+        return next;
     }
-    take_digit(s, b, value as u16)
+    next.last = b;
+    next.at = at;
+    next.value = value as u16;
+    next
 }
 
 // A number that was counted goes to its place among the entries, if it has one.

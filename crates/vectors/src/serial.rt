@@ -1,17 +1,20 @@
-// serial: a text is fed to a reader in parts and its end is told, and then both once more, which must change nothing. The reader goes by value:
-// to lend a struct takes a proof by hand, which the functions for C callers have.
+// serial: a text is fed to a reader in parts and its end is told, and then both once more, which must change nothing. The reader goes by value,
+// through the calls of `serials`: to lend a struct takes a proof by hand, which the functions for C callers have.
 ghost use Prim.Native.Nat.{_≤_};
 use crate::heads;
 use crate::heads::StoredCase;
 use crate::lines::print_case;
-use exports::serial::Said;
+use exports::Numbers;
 use fingerprints::EMPTY;
 use fingerprints::digest_bytes;
 use fingerprints::digest_entries;
+use serials::Reply;
+use serials::Serial;
 
 // A reader with what it told last, and the digest of all that it told.
 struct Noted {
-    said: Said,
+    reader: Serial,
+    told: Numbers,
     digest: u32,
 }
 
@@ -26,23 +29,25 @@ fn digest_number(digest: u32, number: u64) -> u32 {
     digest_entries(digest, &entries)
 }
 
-fn note(digest: u32, said: Said) -> Noted {
-    let told = said.numbers;
+fn note(digest: u32, reply: Reply) -> Noted {
+    let reader = reply.reader;
+    let told = exports::serial::standing(reader.scan);
     let of_number = digest_number(digest, told.number);
     let of_place = digest_number(of_number, told.place);
     let digest = digest_number(of_place, told.first);
-    Noted { said, digest }
+    Noted {
+        reader,
+        told,
+        digest,
+    }
 }
 
 fn note_part(noted: Noted, bytes: &[u8]) -> Noted {
-    note(
-        noted.digest,
-        exports::serial::part(noted.said.reader, bytes),
-    )
+    note(noted.digest, serials::part(noted.reader, bytes))
 }
 
 fn note_end(noted: Noted, table: &mut [u16]) -> Noted {
-    note(noted.digest, exports::serial::end(noted.said.reader, table))
+    note(noted.digest, serials::end(noted.reader, table))
 }
 
 // Where a part ends: so many bytes behind its start, or where the text does.
@@ -59,7 +64,7 @@ fn part_end(start: usize, size: u8, end: usize) -> usize
 
 // A reader that is fed the text, a part for each length and one with what is left.
 fn feed(lines: u8, text: &[u8], lengths: &[u8]) -> Noted {
-    let mut noted = note(EMPTY, exports::serial::start(lines));
+    let mut noted = note(EMPTY, serials::start(lines));
     let mut at: usize = 0;
     let mut k: usize = 0;
     while k < lengths.len() {
@@ -77,7 +82,7 @@ fn show_fed(case: StoredCase, text: &[u8], lengths: &[u8], table: &mut [u16], ot
     let again = note_end(note_part(ended, text), other);
     print_case(
         case.call,
-        ended.said.numbers,
+        ended.told,
         digest_bytes(EMPTY, text),
         digest_bytes(EMPTY, lengths),
         digest_entries(EMPTY, table),

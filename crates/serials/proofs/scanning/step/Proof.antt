@@ -1,9 +1,13 @@
 -- `serials::scanning::step` meets its contract: each return is a case of a byte. Assumes nothing.
 use mathlib.Core.Path.{sym, _∙_}
-use borrow.Author.Tests.{not-true, not-false}
-use Rattle.serials.specs.SerialTexts.{withDigit}
+use lib.Dec.{ltb}
+use native.Mathlib.Omega.{arith}
+use borrow.Author.Tests.{not-true, not-false, ltb-true, lt-ltb, le-ltb}
+use Rattle.ranges.proofs.Bools.{and-left, and-right}
+use Rattle.serials.specs.SerialTexts.{withDigit, follows}
+use Rattle.serials.specs.Serials.{stopped, digitTaken, markTaken}
 use Rattle.serials.proofs.SerialTexts.{digit-low, follows-digit}
-use Rattle.serials.proofs.Serials.{step-over, step-late, step-stray, step-mark, step-large, step-digit}
+use Rattle.serials.proofs.Serials.{step-over, step-stray, step-mark, step-large, step-digit}
 use borrow.Author.Needs.{needs}
 use Rattle.serials.proofs.scanning.step.Statement.{statement}
 use Rattle.serials.proofs.scanning.step.Tie as tie
@@ -11,29 +15,41 @@ use Rattle.serials.proofs.scanning.step.Tie as tie
 returns : tie.Need-returns
 returns c = sym (step-over _ _ (c .if1 .taken))
 
-stop-requires : tie.Need-stop-requires
-stop-requires c κs = search needs
+can-stand-requires : tie.Need-can-stand-requires
+can-stand-requires c κs = search needs
 
 returns-2 : tie.Need-returns-2
-returns-2 c = c .stop .ensures ∙ sym (step-late _ _ (c .before .before .before .if1 .left) (c .before .if2 .taken))
+unfolding stopped
+returns-2 c = sym (step-stray _ _ (c .before .before .if1 .left) (sym (c .before .can-stand .ensures) ∙ not-true _ (c .if2 .taken)))
 
-can-follow-requires : tie.Need-can-follow-requires
-can-follow-requires c κs = search needs
-
-stop-requires-2 : tie.Need-stop-requires-2
-stop-requires-2 c κs = search needs
-
-returns-3 : tie.Need-returns-3
-returns-3 c = c .stop2 .ensures ∙ sym (step-stray _ _ (c .before .before .before .before .before .if1 .left) (c .before .before .before .if2 .left) (sym (c .before .before .can-follow .ensures) ∙ not-true _ (c .before .if3 .taken)))
+add-at : tie.Need-add-at
+add-at c =
+    let s = c .before .before .before .before .before .args .s in
+    let b = c .before .before .before .before .before .args .b in
+    let can = sym (c .before .before .can-stand .ensures) ∙ not-false _ (c .before .if2 .left) in
+    omega (arith, ltb-true (s .at) 65535 (and-left (ltb (s .at) 65535) (follows (s .last) (s .value) b) can))
 
 is-mark-requires : tie.Need-is-mark-requires
 is-mark-requires c κs = search needs
 
-take-mark-requires : tie.Need-take-mark-requires
-take-mark-requires c κs = search needs
+add-next : tie.Need-add-next
+add-next c = search needs
+
+returns-3 : tie.Need-returns-3
+unfolding markTaken
+returns-3 c =
+    let s = c .before .before .before .before .before .before .before .before .before .before .args .s in
+    let can = sym (c .before .before .before .before .before .before .before .can-stand .ensures) ∙ not-false _ (c .before .before .before .before .before .before .if2 .left) in
+    let m = sym (c .before .before .before .before .is-mark .ensures) ∙ c .before .before .before .if3 .taken in
+    rw (step-mark s (c .before .before .before .before .before .before .before .before .before .before .args .b) (c .before .before .before .before .before .before .before .before .if1 .left) can m, lt-ltb (s .count) 730 (c .before .if4 .taken))
 
 returns-4 : tie.Need-returns-4
-returns-4 c = c .take-mark .ensures ∙ sym (step-mark _ _ (c .before .before .before .before .before .before .before .if1 .left) (c .before .before .before .before .before .if2 .left) (sym (c .before .before .before .before .can-follow .ensures) ∙ not-false _ (c .before .before .before .if3 .left)) (sym (c .before .before .is-mark .ensures) ∙ c .before .if4 .taken))
+unfolding markTaken
+returns-4 c =
+    let s = c .before .before .before .before .before .before .before .before .before .args .s in
+    let can = sym (c .before .before .before .before .before .before .can-stand .ensures) ∙ not-false _ (c .before .before .before .before .before .if2 .left) in
+    let m = sym (c .before .before .before .is-mark .ensures) ∙ c .before .before .if3 .taken in
+    rw (step-mark s (c .before .before .before .before .before .before .before .before .before .args .b) (c .before .before .before .before .before .before .before .if1 .left) can m, le-ltb (s .count) 730 (c .if4 .left))
 
 cast-value : tie.Need-cast-value
 cast-value c = search needs
@@ -42,7 +58,11 @@ mul-value : tie.Need-mul-value
 mul-value c = search needs
 
 sub-value : tie.Need-sub-value
-sub-value c = digit-low _ (follows-digit _ _ _ (sym (c .before .before .before .before .can-follow .ensures) ∙ not-false _ (c .before .before .before .if3 .left)) (sym (c .before .before .is-mark .ensures) ∙ c .before .if4 .left))
+sub-value c =
+    let s = c .before .before .before .before .before .before .before .before .args .s in
+    let b = c .before .before .before .before .before .before .before .before .args .b in
+    let can = sym (c .before .before .before .before .before .can-stand .ensures) ∙ not-false _ (c .before .before .before .before .if2 .left) in
+    digit-low b (follows-digit (s .last) (s .value) b (and-right (ltb (s .at) 65535) _ can) (sym (c .before .before .is-mark .ensures) ∙ c .before .if3 .left))
 
 cast-value-2 : tie.Need-cast-value-2
 cast-value-2 c = search needs
@@ -50,43 +70,40 @@ cast-value-2 c = search needs
 add-value : tie.Need-add-value
 add-value c = search needs
 
-stop-requires-3 : tie.Need-stop-requires-3
-stop-requires-3 c κs = search needs
-
 returns-5 : tie.Need-returns-5
-unfolding withDigit
-returns-5 c = c .stop3 .ensures ∙ sym (step-large _ _ (c .before .before .before .before .before .before .before .before .before .if1 .left) (c .before .before .before .before .before .before .before .if2 .left) (sym (c .before .before .before .before .before .before .can-follow .ensures) ∙ not-false _ (c .before .before .before .before .before .if3 .left)) (sym (c .before .before .before .before .is-mark .ensures) ∙ c .before .before .before .if4 .left) (c .before .if5 .taken))
+unfolding stopped withDigit
+returns-5 c =
+    let can = sym (c .before .before .before .before .before .before .can-stand .ensures) ∙ not-false _ (c .before .before .before .before .before .if2 .left) in
+    let m = sym (c .before .before .before .is-mark .ensures) ∙ c .before .before .if3 .left in
+    sym (step-large _ _ (c .before .before .before .before .before .before .before .if1 .left) can m (c .if5 .taken))
 
-cast-take-digit : tie.Need-cast-take-digit
-cast-take-digit c = search needs
-
-take-digit-requires : tie.Need-take-digit-requires
-take-digit-requires c κs = search needs
+cast-next : tie.Need-cast-next
+cast-next c = search needs
 
 returns-6 : tie.Need-returns-6
-unfolding withDigit
-returns-6 c = c .take-digit .ensures ∙ sym (step-digit _ _ (c .before .before .before .before .before .before .before .before .before .if1 .left) (c .before .before .before .before .before .before .before .if2 .left) (sym (c .before .before .before .before .before .before .can-follow .ensures) ∙ not-false _ (c .before .before .before .before .before .if3 .left)) (sym (c .before .before .before .before .is-mark .ensures) ∙ c .before .before .before .if4 .left) (c .before .if5 .left))
+unfolding digitTaken withDigit
+returns-6 c =
+    let can = sym (c .before .before .before .before .before .before .can-stand .ensures) ∙ not-false _ (c .before .before .before .before .before .if2 .left) in
+    let m = sym (c .before .before .before .is-mark .ensures) ∙ c .before .before .if3 .left in
+    sym (step-digit _ _ (c .before .before .before .before .before .before .before .if1 .left) can m (c .if5 .left))
 
 pub step-spec : {M : Type 1} → statement M
 step-spec =
     tie.close
     (tie.spec
     returns
-    stop-requires
+    can-stand-requires
     returns-2
-    can-follow-requires
-    stop-requires-2
-    returns-3
+    add-at
     is-mark-requires
-    take-mark-requires
+    add-next
+    returns-3
     returns-4
     cast-value
     mul-value
     sub-value
     cast-value-2
     add-value
-    stop-requires-3
     returns-5
-    cast-take-digit
-    take-digit-requires
+    cast-next
     returns-6)
