@@ -10,7 +10,7 @@ ghost use Rattle.tidying.specs.TidyAnswers.{tidiedAs};
 ghost use Rattle.choice.specs.Choice.{choiceAs};
 ghost use Rattle.files.specs.Files.{writtenAs, readAs, openingAs};
 ghost use Rattle.listings.specs.Listings.{listedAs};
-ghost use Rattle.serials.specs.Serials.{toldAs};
+ghost use Rattle.serials.specs.Serials.{toldAs, toldOf};
 ghost use Rattle.exports.specs.Numbers.{numbers, handedAs};
 use super::Numbers;
 use cascades::Counted;
@@ -22,7 +22,9 @@ use files::Written;
 use listings::Listed;
 use pricing::Priced;
 use readers::Given;
+use serials::Scan;
 use serials::Told;
+use serials::scanning;
 use tables::Checked;
 use tabulating::Tabulated;
 use tidying::Tidied;
@@ -178,4 +180,11 @@ pub fn told(answer: Told) -> Numbers
         Told::Entries(entries) => accept(entries as u64, 0, 0),
         Told::Refused { number, place } => refuse(number, place),
     }
+}
+
+// The answer that stands in a reader of the serial lead.
+pub fn standing(scan: Scan) -> Numbers
+    ensures { λ r. ⌜ r ≡ numbers (toldAs (toldOf scan)) ⌝ }
+{
+    told(scanning::tell(scan))
 }

@@ -18,8 +18,7 @@ ghost use Rattle.exports.specs.Numbers.{numbers, turnAs, saidBy};
 use serials::Serial;
 use serials::scanning;
 
-mod answers;
-pub mod serial;
+pub mod answers;
 
 // struct tiles_answer
 #[repr(C)]
@@ -181,9 +180,9 @@ pub extern "C" fn tiles_serial_start(reader: &mut Serial, lines: u8) -> Numbers
     ensures { λ r. ⌜ now (reader .exit) ≡ started lines ⌝ }
     ensures { λ r. ⌜ r ≡ saidBy (started lines) ⌝ }
 {
-    let said = serial::start(lines);
-    *reader = said.reader;
-    said.numbers
+    let reply = serials::start(lines);
+    *reader = reply.reader;
+    answers::standing(reply.reader.scan)
 }
 
 #[no_mangle]
@@ -193,7 +192,7 @@ pub extern "C" fn tiles_serial_part(reader: &mut Serial, part: &[u8]) -> Numbers
 {
     let scan = scanning::read(reader.scan, part, &mut reader.entries);
     reader.scan = scan;
-    serial::standing(scan)
+    answers::standing(scan)
 }
 
 #[no_mangle]
@@ -202,7 +201,7 @@ pub extern "C" fn tiles_serial_end(reader: &mut Serial, table: &mut [u16]) -> Nu
     ensures { λ r. ⌜ r ≡ saidBy (ended (now (reader .entry)) (length (now (table .entry)))) ⌝ }
     ensures { λ r. ⌜ now (table .exit) ≡ endedTable (now (reader .entry)) (now (table .entry)) ⌝ }
 {
-    let said = serial::end(*reader, table);
-    *reader = said.reader;
-    said.numbers
+    let reply = serials::end(*reader, table);
+    *reader = reply.reader;
+    answers::standing(reply.reader.scan)
 }

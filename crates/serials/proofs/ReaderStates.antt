@@ -17,9 +17,9 @@ use Rattle.card.specs.Card.{linesOk}
 use Rattle.serials.specs.declared.Scan.{Scan}
 use Rattle.serials.specs.declared.Serial.{Serial}
 use Rattle.serials.specs.SerialTexts.{isDigit, isMark, withDigit, byteBefore, numberTo, numberStart, numbersTo, canStand, wrongByte, wrongPlace}
-use Rattle.serials.specs.Serials.{serial, stopped, digitTaken, markTaken, stepped, kept, opened, started, fed}
-use Rattle.serials.proofs.WrongBytes.{before-next, number-digit, start-digit, numbers-digit, number-mark, start-mark, numbers-mark, wrong-stray, stands-digit, wrong-large, right}
-use Rattle.serials.proofs.Serials.{comes, step-stray, step-mark, step-large, step-digit, kept-none, kept-one, after-byte, fed-more, fed-ends, fed-over}
+use Rattle.serials.specs.Serials.{serial, stopped, comesNext, digitTaken, markTaken, stepped, kept, opened, started, fed}
+use Rattle.serials.proofs.WrongBytes.{before-next, number-digit, start-digit, numbers-digit, number-mark, start-mark, numbers-mark, wrong-stray, wrong-large, right}
+use Rattle.serials.proofs.Serials.{next-digit, step-stray, step-mark, step-large, step-digit, kept-none, kept-one, after-byte, fed-more, fed-ends, fed-over}
 
 -- two lists are alike as far as both go
 abbrev pub Alike : List ℕ → List ℕ → Type 0
@@ -159,8 +159,8 @@ module _ (n : ℕ) (t : List ℕ) (k : ℕ) (r : Serial) (g : Goes n t k r) wher
           g .entries i small within ∙ sym (List·getD-append before (numberTo t k ∷ []) 0 i within)))
 
   -- what the reader says of byte k is what the text says
-  seen : comes s b ≡ canStand t k
-  unfolding canStand
+  seen : comesNext s b ≡ canStand t k
+  unfolding comesNext canStand
   seen = rw (g .at, g .last, g .value)
 
   pub reads-next : Reads n t (suc k) next
@@ -175,7 +175,7 @@ module _ (n : ℕ) (t : List ℕ) (k : ℕ) (r : Serial) (g : Goes n t k r) wher
         where
           right-digit : isMark b ≡ false → Reads n t (suc k) next
           right-digit m =
-              let d = stands-digit t k can m in
+              let d = next-digit s b (seen ∙ can) m in
               let v : withDigit (s .value) b ≡ withDigit (numberTo t k) b = ap (λ (x : ℕ). withDigit x b) (g .value) in
               ⊎-elim
               (λ (large : 65535 < withDigit (numberTo t k) b).

@@ -1,7 +1,7 @@
 -- The equations of a reader's definitions, as its code meets them: one byte, case by case; a number kept; a part, one byte at a time; parts one after the
 -- other. Assumes nothing.
 use mathlib.Core.Path.{_≡_, refl, _∙_}
-use mathlib.Core.Bool.{Bool, true, false, cond, _&&_}
+use mathlib.Core.Bool.{Bool, true, false, cond}
 use mathlib.Core.List.{List, [], _∷_, _++_}
 use Prim.Native.Nat.{ℕ, _+_, _≤_, _<_}
 use native.Mathlib.Numerals.{add-one}
@@ -9,30 +9,36 @@ use native.Mathlib.Omega.{arith}
 use lib.Dec.{ltb}
 use lib.ListN.{length, getD, drop, set, length-set, drop-of-length-le}
 use lib.Seq.{drop-cons, set-out}
-use borrow.Author.Tests.{lt-ltb, le-ltb, eq-eqb, ne-eqb}
+use borrow.Author.Tests.{ltb-true, lt-ltb, le-ltb, eq-eqb, ne-eqb}
+use Rattle.ranges.proofs.Bools.{and-left, and-right}
 use Rattle.texts.specs.Texts.{joined}
 use Rattle.serials.specs.declared.Scan.{Scan}
 use Rattle.serials.specs.declared.Serial.{Serial}
-use Rattle.serials.specs.SerialTexts.{isMark, withDigit, follows}
-use Rattle.serials.specs.Serials.{serial, stopped, digitTaken, markTaken, stepped, kept, fed, fedAll}
+use Rattle.serials.specs.SerialTexts.{isDigit, isMark, withDigit}
+use Rattle.serials.specs.Serials.{serial, stopped, comesNext, digitTaken, markTaken, stepped, kept, fed, fedAll}
+use Rattle.serials.proofs.SerialTexts.{follows-digit}
 
 -- ---- one byte
 
 module _ (s : Scan) (b : ℕ) where
-  -- it can stand there
-  abbrev pub comes : Bool
-  comes = ltb (s .at) 65535 && follows (s .last) (s .value) b
+  pub next-early : comesNext s b ≡ true → s .at < 65535
+  unfolding comesNext
+  next-early can = ltb-true (s .at) 65535 (and-left (ltb (s .at) 65535) _ can)
+
+  pub next-digit : comesNext s b ≡ true → isMark b ≡ false → isDigit b ≡ true
+  unfolding comesNext
+  next-digit can m = follows-digit (s .last) (s .value) b (and-right (ltb (s .at) 65535) _ can) m
 
   pub step-over : (s .over ≡ 0 → ⊥) → stepped s b ≡ s
   unfolding stepped
   step-over ne = rw (ne-eqb (s .over) 0 ne)
 
   module _ (on : s .over ≡ 0) where
-    pub step-stray : comes ≡ false → stepped s b ≡ stopped s 14 (s .at)
+    pub step-stray : comesNext s b ≡ false → stepped s b ≡ stopped s 14 (s .at)
     unfolding stepped
     step-stray cannot = rw (eq-eqb (s .over) 0 on, cannot)
 
-    module _ (can : comes ≡ true) where
+    module _ (can : comesNext s b ≡ true) where
       pub step-mark : isMark b ≡ true → stepped s b ≡ markTaken s b
       unfolding stepped
       step-mark m = rw (eq-eqb (s .over) 0 on, can, m)

@@ -3,12 +3,10 @@ use mathlib.Core.Path.{_≡_, refl}
 use mathlib.Core.Bool.{true, false}
 use mathlib.Core.List.{List, [], _∷_, _++_}
 use Prim.Native.Nat.{ℕ, suc, _≤_, _<_}
-use lib.Dec.{ltb}
 use lib.ListN.{getD}
 use borrow.Author.Tests.{lt-ltb, le-ltb}
-use Rattle.ranges.proofs.Bools.{and-right}
 use Rattle.serials.specs.SerialTexts.{isDigit, isMark, withDigit, follows, byteBefore, numberTo, numberStart, numbersTo, canStand, wrongByte, wrongPlace}
-use Rattle.serials.proofs.SerialTexts.{digit-unmarked, mark-no-digit, follows-digit}
+use Rattle.serials.proofs.SerialTexts.{digit-unmarked, mark-no-digit}
 
 module _ (t : List ℕ) (i : ℕ) where
   abbrev b : ℕ
@@ -61,9 +59,6 @@ module _ (t : List ℕ) (i : ℕ) where
   wrong-late le = wrong-stray (unfold canStand in rw (le-ltb i 65535 le))
 
   module _ (can : canStand t i ≡ true) where
-    pub stands-digit : isMark b ≡ false → isDigit b ≡ true
-    stands-digit m = follows-digit (byteBefore t i) (numberTo t i) b (and-right (ltb i 65535) _ (unfold canStand in can)) m
-
     -- it shows a number that is too large: its place is that number's first byte
     pub wrong-large : 65535 < numberTo t (suc i) → (wrongByte t i ≡ true) × (wrongPlace t i ≡ numberStart t i)
     unfolding wrongByte wrongPlace

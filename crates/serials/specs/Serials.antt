@@ -1,7 +1,7 @@
 -- The reader: what a byte, a part and the end make of it, and what it answers. Any numbers are taken for a reader, made up or not.
 use Prim.Native.Nat.{ℕ, _+_}
 use mathlib.Core.Path.{_≡_}
-use mathlib.Core.Bool.{cond, not, _&&_}
+use mathlib.Core.Bool.{Bool, cond, not, _&&_}
 use mathlib.Core.List.{List, [], _∷_}
 use lib.Dec.{eqb, ltb}
 use lib.ListN.{length, take, set, replicate}
@@ -39,6 +39,10 @@ stopped s k p =
 
 -- ---- a byte
 
+-- byte b can come next; no byte can at offset 65,535
+unfoldable pub comesNext : Scan → ℕ → Bool
+comesNext s b = ltb (s .at) 65535 && follows (s .last) (s .value) b
+
 -- a digit makes the number under way x
 unfoldable pub digitTaken : Scan → ℕ → ℕ → Scan
 digitTaken s b x =
@@ -50,12 +54,12 @@ markTaken s b =
     let m = cond (ltb (s .count) 730) (s .count + 1) (s .count) in
     record { lines = s .lines; last = b; over = s .over; number = s .number; place = s .place; at = s .at + 1; first = s .at + 1; value = 0; count = m }
 
--- a byte that cannot stand there, a mark, a digit that shows a number above 65,535, and any other digit
+-- a byte that cannot come next, a mark, a digit that shows a number above 65,535, and any other digit
 unfoldable pub stepped : Scan → ℕ → Scan
 stepped s b =
     let x = withDigit (s .value) b in
     cond (not (eqb (s .over) 0)) s
-    (cond (not (ltb (s .at) 65535 && follows (s .last) (s .value) b)) (stopped s 14 (s .at))
+    (cond (not (comesNext s b)) (stopped s 14 (s .at))
     (cond (isMark b) (markTaken s b) (cond (ltb 65535 x) (stopped s 14 (s .first)) (digitTaken s b x))))
 
 -- a number that was counted is kept, as far as there are places

@@ -1,10 +1,8 @@
 // A reader's numbers, byte by byte.
 ghost use mathlib.Core.Path.{_≡_};
 ghost use denote.Ref.{now};
-ghost use mathlib.Core.Bool.{_&&_};
-ghost use lib.Dec.{ltb};
 ghost use Rattle.serials.specs.SerialTexts.{isDigit, isMark, follows};
-ghost use Rattle.serials.specs.Serials.{serial, toldOf, stopped, stepped, kept, opened, fed};
+ghost use Rattle.serials.specs.Serials.{serial, toldOf, stopped, comesNext, stepped, kept, opened, fed};
 use crate::Scan;
 use crate::Told;
 
@@ -77,9 +75,8 @@ fn can_follow(last: u8, value: u16, b: u8) -> bool
     is_digit(b) && value != 0
 }
 
-// Whether it can come next: no byte can at offset 65,535.
-fn can_stand(s: Scan, b: u8) -> bool
-    ensures { λ r. ⌜ r ≡ ltb (s .at) 65535 && follows (s .last) (s .value) b ⌝ }
+fn comes_next(s: Scan, b: u8) -> bool
+    ensures { λ r. ⌜ r ≡ comesNext s b ⌝ }
 {
     s.at < 65535 && can_follow(s.last, s.value, b)
 }
@@ -92,7 +89,7 @@ fn step(s: Scan, b: u8) -> Scan
         return s;
     }
     let mut next = s;
-    if !can_stand(s, b) {
+    if !comes_next(s, b) {
         next.over = 1;
         next.number = 14;
         next.place = s.at;

@@ -31,7 +31,8 @@ fn digest_number(digest: u32, number: u64) -> u32 {
 
 fn note(digest: u32, reply: Reply) -> Noted {
     let reader = reply.reader;
-    let told = exports::serial::standing(reader.scan);
+    let answer = reply.told;
+    let told = exports::answers::told(answer);
     let of_number = digest_number(digest, told.number);
     let of_place = digest_number(of_number, told.place);
     let digest = digest_number(of_place, told.first);

@@ -1,7 +1,7 @@
--- `exports::serial::standing` meets its contract. Assumes nothing.
+-- `exports::answers::standing` meets its contract. Assumes nothing.
 use borrow.Author.Needs.{needs}
-use Rattle.exports.proofs.serial.standing.Statement.{statement}
-use Rattle.exports.proofs.serial.standing.Tie as tie
+use Rattle.exports.proofs.answers.standing.Statement.{statement}
+use Rattle.exports.proofs.answers.standing.Tie as tie
 
 tell-requires : tie.Need-tell-requires
 tell-requires c κs = search needs
