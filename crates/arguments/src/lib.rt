@@ -1,4 +1,5 @@
 // What the programs that go through stored files share.
+#![tactic(auto)]
 
 // Prints the name that an argument is, and opens the file of that name.
 pub fn open_argument(i: usize) -> i32 {

@@ -1,4 +1,6 @@
 // Which of the operators D, E and N a board has tiles for: a number, D 1, E 2, N 4, added.
+#![tactic(auto)]
+
 ghost use Rattle.std.specs.Prelude.{◌≡◌};
 ghost use Rattle.boards.specs.Boards.{set_ok, is_fitted};
 

@@ -1,4 +1,6 @@
 // The refusal card's first line.
+#![tactic(auto)]
+
 ghost use Rattle.std.specs.Prelude.{◌≡◌};
 ghost use Rattle.card.specs.Card.{lines_ok};
 

@@ -1,4 +1,6 @@
 // Cascades of gate records: checked, run on a pattern, and inverted.
+#![tactic(auto)]
+
 ghost use Rattle.std.specs.Prelude.{◌≡◌, ◌<◌, ◌^◌, true, ◌∷◌, [], length};
 ghost use Rattle.card.specs.Card.{lines_ok, Answer.accepted};
 ghost use Rattle.cascades.specs.Cascades.{gates_of, ran};
@@ -11,14 +13,14 @@ mod undo;
 use gates::Record;
 
 // So many gates, counted or written.
-#[derive(Drop)]
+#[derive(Clone, Copy)]
 pub enum Counted {
     Gates(usize),
     Refused { number: u8, place: usize },
 }
 
 // The pattern after a cascade.
-#[derive(Drop)]
+#[derive(Clone, Copy)]
 pub enum Ran {
     Pattern(u16),
     Refused { number: u8, place: usize },

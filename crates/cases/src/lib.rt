@@ -1,1 +1,2 @@
 // P1 to P13 of document 01, as one statement over one list.
+#![tactic(auto)]

@@ -1,4 +1,6 @@
 // The cheaper of two cascades that compute the same table.
+#![tactic(auto)]
+
 ghost use Rattle.std.specs.Prelude.{◌≡◌};
 ghost use Rattle.choice.specs.Choice.{choice_as, choose_answer, Handed};
 
@@ -7,7 +9,7 @@ mod compare;
 use pricing::Priced;
 
 // Which of the two it is.
-#[derive(Drop)]
+#[derive(Clone, Copy)]
 pub enum Choice {
     First,
     Second,

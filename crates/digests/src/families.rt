@@ -27,7 +27,7 @@ fn sum_all_tables(
 }
 
 // What is drawn: so many, on so many lines, from a seed on.
-#[derive(Drop)]
+#[derive(Clone, Copy)]
 struct Drawn {
     lines: u8,
     seed: u32,
@@ -56,7 +56,7 @@ fn sum_drawn_tables(
 }
 
 // How the cascades of a family are drawn: gate by gate, dense, or dense and passing in turn.
-#[derive(Drop)]
+#[derive(Clone, Copy)]
 pub enum Kind {
     Single,
     Dense,

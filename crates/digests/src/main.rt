@@ -1,4 +1,6 @@
 // Prints the sums and digests of 17 families of cascades, as docs/VECTORS.md has them; the second program prints the same from its own code.
+#![tactic(auto)]
+
 mod adding;
 mod families;
 mod printing;

@@ -1,7 +1,7 @@
 // What the cascades of a family add up to.
 
 // Of the cascades before tidying, or of those after it.
-#[derive(Drop)]
+#[derive(Clone, Copy)]
 pub struct Side {
     pub gates: u64,
     // At each global control value, all operators fitted.
@@ -17,7 +17,7 @@ pub struct Side {
     pub tables: u32,
 }
 
-#[derive(Drop)]
+#[derive(Clone, Copy)]
 pub struct Sums {
     pub count: u64,
     pub given: Side,

@@ -1,4 +1,6 @@
 // Ternary digits of a pattern: the weight of a line, and a pattern with one digit replaced.
+#![tactic(auto)]
+
 ghost use Rattle.std.specs.Prelude.{◌≡◌, ◌^◌, ◌≤◌, ◌<◌};
 ghost use Rattle.digits.specs.Digits.{digit, put};
 

@@ -111,7 +111,7 @@ fn draw_gate(passing: bool, state: u32, lines: usize, room: &mut [u8], at: usize
 }
 
 // How a cascade is drawn: gate by gate, or out of a few kinds, which are drawn before it and may be such that all pass each other.
-#[derive(Drop)]
+#[derive(Clone, Copy)]
 pub enum Manner {
     Single,
     Dense,

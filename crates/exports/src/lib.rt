@@ -1,4 +1,6 @@
 // Every call for programs in C and Rust: a call's answer goes out as five numbers. include/tiles.h is this file in C's words.
+#![tactic(auto)]
+
 ghost use Rattle.std.specs.Prelude.{◌≡◌, length};
 ghost use Rattle.tables.specs.Tables.{check_table_answer};
 ghost use Rattle.synthesis.specs.Synthesis.{synthesize_answer, synthesize_room};
@@ -21,7 +23,7 @@ pub mod answers;
 
 // struct tiles_answer
 #[repr(C)]
-#[derive(Drop)]
+#[derive(Clone, Copy)]
 pub struct Numbers {
     pub number: u64,
     pub place: u64,

@@ -1,4 +1,6 @@
 // Cascade files, edition 1: written, read, and where their gates stand.
+#![tactic(auto)]
+
 ghost use Rattle.std.specs.Prelude.{◌≡◌, length};
 ghost use Rattle.files.specs.Files.{written_as, read_as, opening_as, write_answer, write_room, read_answer, read_records, read_note, opening_answer};
 
@@ -13,14 +15,14 @@ pub const TRAILER: usize = 8;
 pub const EDITION: u8 = 1;
 
 // So many bytes, written.
-#[derive(Drop)]
+#[derive(Clone, Copy)]
 pub enum Written {
     Bytes(usize),
     Refused { number: u8, place: usize },
 }
 
 // What was read: the lines, the gates and the note's bytes.
-#[derive(Drop)]
+#[derive(Clone, Copy)]
 pub enum ReadBack {
     Parts {
         lines: u8,
@@ -34,7 +36,7 @@ pub enum ReadBack {
 }
 
 // What opening a file finds: the lines, the place of the first record, and where the records end.
-#[derive(Drop)]
+#[derive(Clone, Copy)]
 pub enum Extent {
     Frame { lines: u8, at: usize, end: usize },
     Refused { number: u8, place: usize },

@@ -1,4 +1,6 @@
 // FNV-1a with 32 bits, by which the vector programs show every byte that they lent.
+#![tactic(auto)]
+
 ghost use Rattle.std.specs.Prelude.{◌<◌};
 
 // The digest of nothing.

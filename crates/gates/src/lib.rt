@@ -1,4 +1,6 @@
 // Gates: what an operator does, its inverse, and the record of 8 bytes; `quads` has when a gate fires and what it does.
+#![tactic(auto)]
+
 ghost use Rattle.std.specs.Prelude.{◌≡◌, ◌+◌, ◌≤◌, ◌<◌, leb, length};
 ghost use Rattle.std.proofs.lemmas.List.Edits.{sets};
 ghost use Rattle.gates.specs.Gates.{act, inverse_op};
@@ -10,7 +12,7 @@ pub mod quads;
 pub mod words;
 
 // A gate: the controls of x0 to x5 are packed in base 4, 3 for none.
-#[derive(Drop)]
+#[derive(Clone, Copy)]
 pub struct Gate {
     pub operator: u8,
     pub target: u8,
@@ -18,7 +20,7 @@ pub struct Gate {
 }
 
 // A decoded record: a gate, or a refusal.
-#[derive(Drop)]
+#[derive(Clone, Copy)]
 pub enum Record {
     Gate {
         operator: u8,

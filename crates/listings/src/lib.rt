@@ -1,4 +1,6 @@
 // The printed listing of a cascade.
+#![tactic(auto)]
+
 ghost use Rattle.std.specs.Prelude.{◌≡◌, length};
 ghost use Rattle.listings.specs.Listings.{listed_as, listing_answer, listing_room};
 
@@ -7,7 +9,7 @@ mod writing;
 use pricing::Priced;
 
 // So many bytes of text, written.
-#[derive(Drop)]
+#[derive(Clone, Copy)]
 pub enum Listed {
     Bytes(usize),
     Refused { number: u8, place: usize },

@@ -1,4 +1,6 @@
 // Gate lists as text in document 003's names for the operators, read and written.
+#![tactic(auto)]
+
 ghost use Rattle.std.specs.Prelude.{◌≡◌, length};
 ghost use Rattle.cascades.specs.Answers.{counted_as};
 ghost use Rattle.listings.specs.Listings.{listed_as};

@@ -1,4 +1,6 @@
 // What a cascade costs.
+#![tactic(auto)]
+
 ghost use Rattle.std.specs.Prelude.{◌≡◌, true, ◌∷◌, []};
 ghost use Rattle.card.specs.Card.{lines_ok, Answer.accepted};
 ghost use Rattle.cascades.specs.Cascades.{gates_of};
@@ -10,7 +12,7 @@ mod rates;
 use gates::Record;
 
 // The cost.
-#[derive(Drop)]
+#[derive(Clone, Copy)]
 pub enum Priced {
     Cost(u32),
     Refused { number: u8, place: usize },

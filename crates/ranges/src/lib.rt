@@ -1,1 +1,2 @@
 // Theory only: numbers counted upward, which every search, sum and list of the crates above is stated by.
+#![tactic(auto)]

@@ -1,4 +1,6 @@
 // Opens each file that an argument names by the reader that keeps hold of it, and prints under the file's name what it hands out, a line a turn.
+#![tactic(auto)]
+
 use readers::Given;
 
 fn print_number(word: &[u8], number: usize) {

@@ -6,7 +6,7 @@ ghost use Rattle.readers.specs.Inner.Held.{bounds_of, HeldPart};
 use files::Extent;
 
 // Where the records end, the place of the first, and the lines.
-#[derive(Drop)]
+#[derive(Clone, Copy)]
 pub struct Bounds {
     pub end: usize,
     pub at: usize,

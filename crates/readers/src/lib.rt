@@ -1,4 +1,6 @@
 // A reader over a cascade file, which hands out gate after gate.
+#![tactic(auto)]
+
 ghost use Rattle.std.specs.Prelude.{◌≡◌};
 ghost use Rattle.readers.specs.Readers.{given_as, turn_at, turn_of, moved_to, Opened};
 
@@ -8,7 +10,7 @@ mod standing;
 use gates::Record;
 
 // What a reader hands out.
-#[derive(Drop)]
+#[derive(Clone, Copy)]
 pub enum Given {
     Gate {
         operator: u8,
@@ -23,14 +25,14 @@ pub enum Given {
 }
 
 // What a reader hands out, and its place afterwards.
-#[derive(Drop)]
+#[derive(Clone, Copy)]
 pub struct Turn {
     pub given: Given,
     pub at: usize,
 }
 
 // A reader: the file that it keeps hold of, the offset where the records end, its place, and the lines.
-#[derive(Drop)]
+#[derive(Clone, Copy)]
 pub struct Reader<'a> {
     pub file: &'a [u8],
     pub end: usize,

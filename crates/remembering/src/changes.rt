@@ -11,7 +11,7 @@ use gates::Gate;
 
 // Of the gates and gaps in the buffer, so many, the one at a place is to become a gate, or a gap: seen is what this must not meet. No row before
 // `from` has a pair yet.
-#[derive(Drop)]
+#[derive(Clone, Copy)]
 pub struct Change {
     pub count: usize,
     pub place: usize,

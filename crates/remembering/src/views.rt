@@ -90,7 +90,7 @@ pub fn row_word(b: &[u8], m: usize, k: usize) -> u64
 }
 
 // Two sets: of types on each line, and of kinds. Of a stretch of sixteen places they are what stands there, of a gate what it must not meet.
-#[derive(Drop)]
+#[derive(Clone, Copy)]
 pub struct Sets {
     pub types: u64,
     pub kinds: u64,

@@ -10,7 +10,7 @@ ghost use Rattle.rules.specs.Inner.NamedRules.{rule_for, rule_by};
 use gates::Gate;
 
 // The rules by name.
-#[derive(Drop)]
+#[derive(Clone, Copy)]
 pub enum Rule {
     Cancel,
     Merge,
@@ -110,7 +110,7 @@ fn find_difference(a: u16, b: u16) -> usize
 }
 
 // What a rule leaves in the places of gates i and j.
-#[derive(Drop)]
+#[derive(Clone, Copy)]
 pub struct Left {
     pub first: Gate,
     pub second: Gate,

@@ -1,5 +1,7 @@
 // Tables over the serial lead: a reader that is fed a text in parts and then told that the text has ended. The reader is passed by value and returned, so that
 // whoever holds it decides where it lies.
+#![tactic(auto)]
+
 ghost use Rattle.std.specs.Prelude.{◌≡◌, length};
 ghost use Rattle.serials.specs.Serials.{reply, started, fed, ended, ended_table};
 
@@ -10,7 +12,7 @@ pub mod scanning;
 // numbers were accepted as entries. last is the byte that came last, a space at the start; at is the offset of the next one; value is the number under way, 0
 // where there is none, and first the offset at which it begins, or the next one does; count is how many numbers were ended, up to 730.
 #[repr(C)]
-#[derive(Drop)]
+#[derive(Clone, Copy)]
 pub struct Scan {
     pub lines: u8,
     pub last: u8,
@@ -25,20 +27,20 @@ pub struct Scan {
 
 // A reader: that, and the first 729 numbers.
 #[repr(C)]
-#[derive(Drop)]
+#[derive(Clone, Copy)]
 pub struct Serial {
     pub scan: Scan,
     pub entries: [u16; 729],
 }
 
 // No entries while the text goes on.
-#[derive(Drop)]
+#[derive(Clone, Copy)]
 pub enum Told {
     Entries(usize),
     Refused { number: u8, place: usize },
 }
 
-#[derive(Drop)]
+#[derive(Clone, Copy)]
 pub struct Reply {
     pub reader: Serial,
     pub told: Told,

@@ -1,4 +1,6 @@
 // The program's text for a table file.
+#![tactic(auto)]
+
 ghost use Rattle.std.specs.Prelude.{◌≡◌, ◌/◌, ◌^◌, ◌≤◌, length, take};
 ghost use Rattle.synthesis.specs.Synthesis.{bound};
 ghost use Rattle.listings.specs.Listings.{listed_as};

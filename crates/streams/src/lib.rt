@@ -1,4 +1,5 @@
 // A table file from a descriptor, and its text on standard output.
+#![tactic(auto)]
 
 // The longest table file has 1,459 bytes. One byte more is read, so that a longer input is not taken for a shorter one.
 pub fn print_sheet(input: i32) {

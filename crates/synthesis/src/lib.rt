@@ -1,4 +1,6 @@
 // From table to cascade: the table is checked, then the room, the gates are found, and their records written.
+#![tactic(auto)]
+
 ghost use Rattle.std.specs.Prelude.{◌≡◌, ◌≤◌, length};
 ghost use Rattle.cascades.specs.Answers.{counted_as};
 ghost use Rattle.synthesis.specs.Synthesis.{bound, synthesize_answer, synthesize_room};

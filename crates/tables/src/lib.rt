@@ -1,4 +1,6 @@
 // Tables of patterns: which of them are accepted, and the inverse of one that is.
+#![tactic(auto)]
+
 ghost use Rattle.std.specs.Prelude.{◌≡◌, [], ◌^◌, ◌≤◌, length, take};
 ghost use Rattle.card.specs.Card.{Answer.accepted};
 ghost use Rattle.tables.specs.Tables.{on_table, check_table_answer, checked_as};
@@ -6,7 +8,7 @@ ghost use Rattle.tables.specs.Inner.Inverses.{Inverted};
 
 mod entries;
 
-#[derive(Drop)]
+#[derive(Clone, Copy)]
 pub enum Checked {
     Accepted,
     Refused { number: u8, place: usize },

@@ -1,4 +1,6 @@
 // Whole tables: what a cascade makes of every pattern, written into a lent room.
+#![tactic(auto)]
+
 ghost use Rattle.std.specs.Prelude.{◌≡◌, length};
 ghost use Rattle.tabulating.specs.Tabulating.{tabulated_as, tabulate_answer, tabulate_room};
 
@@ -10,7 +12,7 @@ pub mod whole;
 use cascades::Counted;
 
 // So many entries of a table, written.
-#[derive(Drop)]
+#[derive(Clone, Copy)]
 pub enum Tabulated {
     Entries(usize),
     Refused { number: u8, place: usize },

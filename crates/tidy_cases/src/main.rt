@@ -1,4 +1,6 @@
 // Document 01's cases P8 to P13, run: each cascade is tidied, and what is left is printed with the steps it took.
+#![tactic(auto)]
+
 use listings::Listed;
 use tidying::Tidied;
 

@@ -1,4 +1,6 @@
 // Tidying a cascade where it lies: the first open pair that fits a rule, again and again, until none fits.
+#![tactic(auto)]
+
 ghost use Rattle.std.specs.Prelude.{◌≡◌};
 ghost use Rattle.rules.specs.Tidying.{tidy_answer, tidy_buffer};
 ghost use Rattle.tidying.specs.TidyAnswers.{tidied_as};
@@ -10,7 +12,7 @@ mod repeating;
 use cascades::Counted;
 
 // The gates left, and the steps taken.
-#[derive(Drop)]
+#[derive(Clone, Copy)]
 pub enum Tidied {
     Gates { left: usize, steps: usize },
     Refused { number: u8, place: usize },

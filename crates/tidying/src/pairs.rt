@@ -6,7 +6,7 @@ ghost use Rattle.remembering.specs.Inner.Buffers.{gates_in, BufferHolds};
 ghost use Rattle.tidying.specs.Inner.PairSearches.{Remembers, PairAt};
 
 // Two places of a cascade.
-#[derive(Drop)]
+#[derive(Clone, Copy)]
 pub struct Pair {
     pub i: usize,
     pub j: usize,

@@ -2,7 +2,7 @@
 ghost use Rattle.tidying.specs.Inner.PairSearches.{GateRecords, MemoryRoom, TidiedIn};
 
 // What is left of m gates, and how many steps it took.
-#[derive(Drop)]
+#[derive(Clone, Copy)]
 pub struct Done {
     pub left: usize,
     pub steps: usize,

@@ -1,4 +1,6 @@
 // What the program prints of each file that an argument names, under the file's name.
+#![tactic(auto)]
+
 fn main() {
     let count = os::arg_count();
     let mut i = 1;

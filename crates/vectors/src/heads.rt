@@ -2,7 +2,7 @@
 ghost use Rattle.std.specs.Prelude.{◌+◌, ◌*◌, ◌<◌, ◌≤◌, length};
 
 // The words' names are those of docs/VECTORS.md.
-#[derive(Drop)]
+#[derive(Clone, Copy)]
 pub struct StoredCase {
     pub call: u32,
     pub lines: u8,
@@ -20,7 +20,7 @@ pub struct StoredCase {
     pub end: usize,
 }
 
-#[derive(Drop)]
+#[derive(Clone, Copy)]
 pub enum ParsedHead {
     Case(StoredCase),
     Nothing,

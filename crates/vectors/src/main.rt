@@ -1,4 +1,6 @@
 // Reads the cases of docs/VECTORS.md from standard input, performs the call of each, and prints a line for each.
+#![tactic(auto)]
+
 mod calls;
 mod given;
 mod heads;

@@ -10,7 +10,7 @@ use fingerprints::{EMPTY, digest_bytes, digest_entries};
 use serials::{Reply, Serial};
 
 // A reader with what it told last, and the digest of all that it told.
-#[derive(Drop)]
+#[derive(Clone, Copy)]
 struct Noted {
     reader: Serial,
     told: Numbers,
