@@ -1,8 +1,8 @@
 -- The laws of the card: which case an answer is, and what a room holds. Assumes nothing.
-use mathlib.Core.Path.{◌≡◌, refl, sym, ap, ◌∙◌}
-use mathlib.Core.Bool.{Bool, true, false, cond, not, ◌&&◌}
-use mathlib.Core.List.{List, [], ◌∷◌, ◌++◌}
-use Prim.Native.Nat.{ℕ, ◌+◌, ◌≤◌, ◌<◌}
+use mathlib.Core.Path.{◌≡◌, refl, sym, ◌∙◌}
+use mathlib.Core.Bool.{Bool, true, false, not}
+use mathlib.Core.List.{List, ◌++◌}
+use Prim.Native.Nat.{ℕ, ◌+◌, ◌≤◌}
 use native.Mathlib.Nat.{zero-add}
 use native.Mathlib.Omega.{arith}
 use lib.Dec.{leb}
@@ -57,11 +57,11 @@ unfolding after
 after_refused a k p new old e = rw e
 
 -- a call's two promises at once: the answer, and what the lent buffer holds
-pub refused_both : (a : Answer) (k p : ℕ) (new old : List ℕ) → a ≡ refused k p → (refused k p ≡ a) × (old ≡ after a new old)
-refused_both a k p new old e = (sym e, sym (after_refused a k p new old e))
+pub refused_both : (a : Answer) (k p : ℕ) (new old : List ℕ) → a ≡ refused k p → record { answer : refused k p ≡ a; room_after : old ≡ after a new old }
+refused_both a k p new old e = record { answer = sym e; room_after = sym (after_refused a k p new old e) }
 
-pub accepted_both : (a : Answer) (vs new old now : List ℕ) → a ≡ accepted vs → now ≡ new → (accepted vs ≡ a) × (now ≡ after a new old)
-accepted_both a vs new old now e f = (sym e, f ∙ sym (after_accepted a vs new old e))
+pub accepted_both : (a : Answer) (vs new old now : List ℕ) → a ≡ accepted vs → now ≡ new → record { answer : accepted vs ≡ a; room_after : now ≡ after a new old }
+accepted_both a vs new old now e f = record { answer = sym e; room_after = f ∙ sym (after_accepted a vs new old e) }
 
 -- stores from the start of a room on
 pub sets_laid : (xs room : List ℕ) → length xs ≤ length room → sets room 0 xs ≡ laid xs room

@@ -1,6 +1,6 @@
 -- Gates as bytes: how long their records are, one turn of a loop that writes them, and that what was written is read back. Assumes nothing.
 use mathlib.Core.Path.{◌≡◌, refl, sym, ap, ap₂, ◌∙◌}
-use mathlib.Core.List.{List, [], ◌∷◌}
+use mathlib.Core.List.{List, [], ◌∷◌, ◌++◌}
 use Prim.Native.Nat.{ℕ, ◌+◌, ◌-◌, ◌*◌, ◌/◌, ◌≤◌, ◌<◌}
 use native.Mathlib.Nat.{zero-add, add-zero}
 use native.Mathlib.Omega.{arith}
@@ -75,7 +75,9 @@ read_back n (g ∷ gs) out i each fits =
     ∙ gate_written g out (8 * i) (omega arith) each.0.packed in
     let tail : span (gate_in (sets (sets out (8 * i) (record_of g)) (8 * (i + 1)) (bytes_of gs))) (i + 1) (length gs) ≡ gs =
     read_back n gs (sets out (8 * i) (record_of g)) (i + 1) each.1 (rw (length-sets out (8 * i) (record_of g)) (omega arith)) in
-    rw (sets_append (record_of g) (bytes_of gs) out (8 * i), e) (ap₂ (λ (x : Gate) (l : List Gate). x ∷ l) head tail)
+    let laid : sets out (8 * i) (record_of g ++ bytes_of gs) ≡ sets (sets out (8 * i) (record_of g)) (8 * (i + 1)) (bytes_of gs) =
+    sets_append (record_of g) (bytes_of gs) out (8 * i) ∙ ap (λ (k : ℕ). sets (sets out (8 * i) (record_of g)) k (bytes_of gs)) e in
+    ap (λ (o : List ℕ). span (gate_in o) i (length (g ∷ gs))) laid ∙ ap₂ (λ (x : Gate) (l : List Gate). x ∷ l) head tail
 
 -- so a room that was laid out with a cascade's records holds that cascade
 pub laid_gates : (n : ℕ) (gs : List Gate) (room : List ℕ) → Each (IsGate n) gs → 8 * length gs ≤ length room → span (gate_in (laid (bytes_of gs) room)) 0 (length gs) ≡ gs

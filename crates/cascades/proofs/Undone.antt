@@ -1,7 +1,7 @@
 -- The reversed list of the gates' inverses undoes the list, from either side, and is a cascade itself. Assumes nothing.
 use mathlib.Core.Path.{◌≡◌, refl, ◌∙◌}
 use mathlib.Core.List.{List, [], ◌∷◌, ◌++◌, map, reverse-cons}
-use Prim.Native.Nat.{ℕ, ◌+◌, ◌-◌}
+use Prim.Native.Nat.{ℕ}
 use native.Mathlib.Omega.{arith}
 use lib.ListN.{length, length-reverse, length-map}
 use Rattle.ranges.specs.Lists.{Each, through}

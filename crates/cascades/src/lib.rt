@@ -109,7 +109,7 @@ pub fn run(lines: u8, cascade: &[u8], pattern: u16) -> Ran
 
 // The reversed list of the gates' inverses, into a room for records: refusals 1, 6, 7, 5.
 pub fn invert(lines: u8, cascade: &[u8], room: &mut [u8]) -> Counted
-    ensures result_value { counted_as result ≡ invert_answer lines cascade.now (length room.old) }
+    ensures answer { counted_as result ≡ invert_answer lines cascade.now (length room.old) }
     ensures room_after { room.new ≡ invert_room lines cascade.now room.old }
 {
     match check_cascade(lines, cascade) {

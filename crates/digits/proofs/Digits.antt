@@ -1,7 +1,7 @@
 -- The laws of `digit` and `put`, each once, over any radix and any line.
 -- Everything rests on how the two go over to p / r: `digit_zero`, `digit_suc`, `put_zero`, `put_suc`. Assumes nothing.
 use mathlib.Core.Path.{◌≡◌, refl, sym, ap, ◌∙◌}
-use Prim.Native.Nat.{ℕ, zero, suc, ◌+◌, ◌-◌, ◌*◌, ◌/◌, ◌%◌, ◌^◌, ◌≤◌, ◌<◌}
+use Prim.Native.Nat.{ℕ, zero, suc, ◌+◌, ◌*◌, ◌/◌, ◌%◌, ◌^◌, ◌≤◌, ◌<◌}
 use native.Mathlib.Nat.{pow-zero, pow-suc, pow-succ', pow-le-pow_right, div-one, div-div-eq-div-mul, div-eq_of_lt, div-lt_iff_lt-mul, div-mul-le_self, add-mul-div_left, add-mul-mod_self_left, mod-eq_of_lt, mod-lt, mod-le, mod-add-div, add-zero, zero-add, zero-mod, mul-one, mul-add, mul-suc, mul_left_comm, mul_assoc, mul-le-mul_left, mul-le-mul_right, le_trans, lt_of_lt_of_le}
 use native.Mathlib.Numerals.{add-one}
 use lib.Pow.{pow-add}

@@ -41,7 +41,7 @@ pub extern "C" fn tiles_check_table(lines: u8, table: &[u16]) -> Numbers
 
 #[unsafe(no_mangle)]
 pub extern "C" fn tiles_synthesize(lines: u8, table: &[u16], room: &mut [u8]) -> Numbers
-    ensures value { result ≡ numbers (synthesize_answer lines table.now (length room.old)) }
+    ensures answer { result ≡ numbers (synthesize_answer lines table.now (length room.old)) }
     ensures room_after { room.new ≡ synthesize_room lines table.now room.old }
 {
     answers::counted(synthesis::synthesize(lines, table, room))
@@ -63,7 +63,7 @@ pub extern "C" fn tiles_run(lines: u8, cascade: &[u8], pattern: u16) -> Numbers
 
 #[unsafe(no_mangle)]
 pub extern "C" fn tiles_tabulate(lines: u8, cascade: &[u8], room: &mut [u16]) -> Numbers
-    ensures value { result ≡ numbers (tabulate_answer lines cascade.now (length room.old)) }
+    ensures answer { result ≡ numbers (tabulate_answer lines cascade.now (length room.old)) }
     ensures room_after { room.new ≡ tabulate_room lines cascade.now room.old }
 {
     answers::tabulated(tabulating::tabulate(lines, cascade, room))
@@ -71,7 +71,7 @@ pub extern "C" fn tiles_tabulate(lines: u8, cascade: &[u8], room: &mut [u16]) ->
 
 #[unsafe(no_mangle)]
 pub extern "C" fn tiles_invert(lines: u8, cascade: &[u8], room: &mut [u8]) -> Numbers
-    ensures value { result ≡ numbers (invert_answer lines cascade.now (length room.old)) }
+    ensures answer { result ≡ numbers (invert_answer lines cascade.now (length room.old)) }
     ensures room_after { room.new ≡ invert_room lines cascade.now room.old }
 {
     answers::counted(cascades::invert(lines, cascade, room))
@@ -86,7 +86,7 @@ pub extern "C" fn tiles_price(lines: u8, value: u8, fitted: u8, cascade: &[u8]) 
 
 #[unsafe(no_mangle)]
 pub extern "C" fn tiles_tidy(lines: u8, cascade: &mut [u8]) -> Numbers
-    ensures value { result ≡ numbers (tidy_answer lines cascade.old) }
+    ensures answer { result ≡ numbers (tidy_answer lines cascade.old) }
     ensures cascade_after { cascade.new ≡ tidy_buffer lines cascade.old }
 {
     answers::tidied(tidying::tidy(lines, cascade))
@@ -112,7 +112,7 @@ pub extern "C" fn tiles_write_file(
     note: &[u8],
     room: &mut [u8],
 ) -> Numbers
-    ensures value { result ≡ numbers (write_answer lines cascade.now note.now (length room.old)) }
+    ensures answer { result ≡ numbers (write_answer lines cascade.now note.now (length room.old)) }
     ensures room_after { room.new ≡ write_room lines cascade.now note.now room.old }
 {
     answers::written(files::write_file(lines, cascade, note, room))
@@ -120,7 +120,7 @@ pub extern "C" fn tiles_write_file(
 
 #[unsafe(no_mangle)]
 pub extern "C" fn tiles_read_file(file: &[u8], records: &mut [u8], note: &mut [u8]) -> Numbers
-    ensures value { result ≡ numbers (read_answer file.now (length records.old) (length note.old)) }
+    ensures answer { result ≡ numbers (read_answer file.now (length records.old) (length note.old)) }
     ensures records_after { records.new ≡ read_records file.now records.old note.old }
     ensures note_after { note.new ≡ read_note file.now records.old note.old }
 {
@@ -146,7 +146,7 @@ pub extern "C" fn tiles_next(file: &[u8], lines: u8, place: usize, end: usize) -
 
 #[unsafe(no_mangle)]
 pub extern "C" fn tiles_listing(lines: u8, cascade: &[u8], room: &mut [u8]) -> Numbers
-    ensures value { result ≡ numbers (listing_answer lines cascade.now (length room.old)) }
+    ensures answer { result ≡ numbers (listing_answer lines cascade.now (length room.old)) }
     ensures room_after { room.new ≡ listing_room lines cascade.now room.old }
 {
     answers::listed(listings::listing(lines, cascade, room))
@@ -154,7 +154,7 @@ pub extern "C" fn tiles_listing(lines: u8, cascade: &[u8], room: &mut [u8]) -> N
 
 #[unsafe(no_mangle)]
 pub extern "C" fn tiles_sheet(file: &[u8], room: &mut [u8]) -> Numbers
-    ensures value { result ≡ numbers (sheet_answer file.now (length room.old)) }
+    ensures answer { result ≡ numbers (sheet_answer file.now (length room.old)) }
     ensures room_after { room.new ≡ sheet_room file.now room.old }
 {
     answers::listed(sheets::sheet(file, room))
@@ -162,7 +162,7 @@ pub extern "C" fn tiles_sheet(file: &[u8], room: &mut [u8]) -> Numbers
 
 #[unsafe(no_mangle)]
 pub extern "C" fn tiles_read_names(lines: u8, text: &[u8], room: &mut [u8]) -> Numbers
-    ensures value { result ≡ numbers (read_names_answer lines text.now (length room.old)) }
+    ensures answer { result ≡ numbers (read_names_answer lines text.now (length room.old)) }
     ensures room_after { room.new ≡ read_names_room lines text.now room.old }
 {
     answers::counted(names::read_names(lines, text, room))
@@ -170,7 +170,7 @@ pub extern "C" fn tiles_read_names(lines: u8, text: &[u8], room: &mut [u8]) -> N
 
 #[unsafe(no_mangle)]
 pub extern "C" fn tiles_write_names(lines: u8, cascade: &[u8], room: &mut [u8]) -> Numbers
-    ensures value { result ≡ numbers (write_names_answer lines cascade.now (length room.old)) }
+    ensures answer { result ≡ numbers (write_names_answer lines cascade.now (length room.old)) }
     ensures room_after { room.new ≡ write_names_room lines cascade.now room.old }
 {
     answers::listed(names::write_names(lines, cascade, room))
@@ -180,7 +180,7 @@ pub extern "C" fn tiles_write_names(lines: u8, cascade: &[u8], room: &mut [u8]) 
 #[unsafe(no_mangle)]
 pub extern "C" fn tiles_serial_start(reader: &mut Serial, lines: u8) -> Numbers
     ensures reader_after { reader.new ≡ started lines }
-    ensures value { result ≡ said_by (started lines) }
+    ensures answer { result ≡ said_by (started lines) }
 {
     let reply = serials::start(lines);
     *reader = reply.reader;
@@ -190,7 +190,7 @@ pub extern "C" fn tiles_serial_start(reader: &mut Serial, lines: u8) -> Numbers
 #[unsafe(no_mangle)]
 pub extern "C" fn tiles_serial_part(reader: &mut Serial, part: &[u8]) -> Numbers
     ensures reader_after { reader.new ≡ fed reader.old part.now }
-    ensures value { result ≡ said_by (fed reader.old part.now) }
+    ensures answer { result ≡ said_by (fed reader.old part.now) }
 {
     let scan = scanning::read(reader.scan, part, &mut reader.entries);
     reader.scan = scan;
@@ -200,7 +200,7 @@ pub extern "C" fn tiles_serial_part(reader: &mut Serial, part: &[u8]) -> Numbers
 #[unsafe(no_mangle)]
 pub extern "C" fn tiles_serial_end(reader: &mut Serial, table: &mut [u16]) -> Numbers
     ensures reader_after { reader.new ≡ ended reader.old (length table.old) }
-    ensures value { result ≡ said_by (ended reader.old (length table.old)) }
+    ensures answer { result ≡ said_by (ended reader.old (length table.old)) }
     ensures table_after { table.new ≡ ended_table reader.old table.old }
 {
     let reply = serials::end(*reader, table);

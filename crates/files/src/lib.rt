@@ -44,7 +44,7 @@ pub enum Extent {
 
 // The file of a note and a cascade, into a room for bytes: refusals 1, 6, 7, 9, 5.
 pub fn write_file(lines: u8, cascade: &[u8], note: &[u8], room: &mut [u8]) -> Written
-    ensures result_value { written_as result ≡ write_answer lines cascade.now note.now (length room.old) }
+    ensures answer { written_as result ≡ write_answer lines cascade.now note.now (length room.old) }
     ensures room_after { room.new ≡ write_room lines cascade.now note.now room.old }
 {
     match cascades::check_cascade(lines, cascade) {
@@ -71,7 +71,7 @@ pub fn write_file(lines: u8, cascade: &[u8], note: &[u8], room: &mut [u8]) -> Wr
 
 // What a file holds, into a room for records and one for the note: refusals 9, 1, 6, 7, 5, 5.
 pub fn read_file(file: &[u8], records: &mut [u8], note: &mut [u8]) -> ReadBack
-    ensures result_value { read_as result ≡ read_answer file.now (length records.old) (length note.old) }
+    ensures answer { read_as result ≡ read_answer file.now (length records.old) (length note.old) }
     ensures records_after { records.new ≡ read_records file.now records.old note.old }
     ensures note_after { note.new ≡ read_note file.now records.old note.old }
 {

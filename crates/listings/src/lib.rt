@@ -17,7 +17,7 @@ pub enum Listed {
 
 // The listing of a cascade, into a room for bytes: refusals 1, 6, 7, 5. Pricing finds 1, 6 and 7 on its way.
 pub fn listing(lines: u8, cascade: &[u8], room: &mut [u8]) -> Listed
-    ensures result_value { listed_as result ≡ listing_answer lines cascade.now (length room.old) }
+    ensures answer { listed_as result ≡ listing_answer lines cascade.now (length room.old) }
     ensures room_after { room.new ≡ listing_room lines cascade.now room.old }
 {
     match pricing::price(lines, 2, 7, cascade) {

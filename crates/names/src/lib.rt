@@ -27,7 +27,7 @@ const NAMES: [u64; 6] = [
 
 // The gates of a text, into a room for records: refusals 1, 12, 6, 5.
 pub fn read_names(lines: u8, text: &[u8], room: &mut [u8]) -> Counted
-    ensures result_value { counted_as result ≡ read_names_answer lines text.now (length room.old) }
+    ensures answer { counted_as result ≡ read_names_answer lines text.now (length room.old) }
     ensures room_after { room.new ≡ read_names_room lines text.now room.old }
 {
     if !card::lines_ok(lines) {
@@ -59,7 +59,7 @@ pub fn read_names(lines: u8, text: &[u8], room: &mut [u8]) -> Counted
 
 // The text of a cascade, into a room for bytes: refusals 1, 6, 7, 5.
 pub fn write_names(lines: u8, cascade: &[u8], room: &mut [u8]) -> Listed
-    ensures result_value { listed_as result ≡ write_names_answer lines cascade.now (length room.old) }
+    ensures answer { listed_as result ≡ write_names_answer lines cascade.now (length room.old) }
     ensures room_after { room.new ≡ write_names_room lines cascade.now room.old }
 {
     match cascades::check_cascade(lines, cascade) {

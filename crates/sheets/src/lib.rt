@@ -16,7 +16,7 @@ use listings::Listed;
 // The listing of the table's cascade, or the line of its refusal. The cascade's room has as many records as any table of so many lines needs.
 fn list_table(lines: u8, file: &[u8], table: &[u16], cascade: &mut [u8], room: &mut [u8]) -> Listed
     requires { TableFile file.now lines × (table.now ≡ entries_of file.now) × (bound lines ≤ length cascade.old / 8) }
-    ensures result_value { listed_as result ≡ sheet_answer file.now (length room.old) }
+    ensures answer { listed_as result ≡ sheet_answer file.now (length room.old) }
     ensures room_after { room.new ≡ sheet_room file.now room.old }
 {
     match synthesis::synthesize(lines, table, cascade) {
@@ -34,7 +34,7 @@ fn list_entries(
     room: &mut [u8],
 ) -> Listed
     requires { TableFile file.now lines × (length table.old ≡ 3 ^ lines) × (length cascade.old ≡ 32080) }
-    ensures result_value { listed_as result ≡ sheet_answer file.now (length room.old) }
+    ensures answer { listed_as result ≡ sheet_answer file.now (length room.old) }
     ensures room_after { room.new ≡ sheet_room file.now room.old }
 {
     table_file::read_entries(file, table);
@@ -44,7 +44,7 @@ fn list_entries(
 // The same, with a table and a cascade's room of its own: 729 entries and 4,010 records are enough for six lines.
 fn list_file(lines: u8, file: &[u8], size: usize, room: &mut [u8]) -> Listed
     requires { TableFile file.now lines × (size ≡ 3 ^ lines) }
-    ensures result_value { listed_as result ≡ sheet_answer file.now (length room.old) }
+    ensures answer { listed_as result ≡ sheet_answer file.now (length room.old) }
     ensures room_after { room.new ≡ sheet_room file.now room.old }
 {
     let mut table = [0u16; 729];
@@ -54,7 +54,7 @@ fn list_file(lines: u8, file: &[u8], size: usize, room: &mut [u8]) -> Listed
 
 // The text for a table file's bytes, into a room for bytes: the listing, or the line of refusal 1, 2, 3 or 4. Its own refusal is 5.
 pub fn sheet(file: &[u8], room: &mut [u8]) -> Listed
-    ensures result_value { listed_as result ≡ sheet_answer file.now (length room.old) }
+    ensures answer { listed_as result ≡ sheet_answer file.now (length room.old) }
     ensures room_after { room.new ≡ sheet_room file.now room.old }
 {
     let lines = table_file::lines_of(file);

@@ -21,7 +21,7 @@ fn write_refusal(file: &[u8], number: u8, place: usize, room: &mut [u8]) -> usiz
 // The line, where the room has place for it; the line's own words have 13 bytes.
 pub fn list_refusal(file: &[u8], number: u8, place: usize, room: &mut [u8]) -> Listed
     requires { file_answer file.now ≡ refused number place }
-    ensures result_value { listed_as result ≡ sheet_answer file.now (length room.old) }
+    ensures answer { listed_as result ≡ sheet_answer file.now (length room.old) }
     ensures room_after { room.new ≡ sheet_room file.now room.old }
 {
     let k = numbers::size_decimal(number as usize);

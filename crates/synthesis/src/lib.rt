@@ -31,7 +31,7 @@ fn synthesize_in(
     room: &mut [u8],
 ) -> Counted
     requires { (length inverse.old ≡ 729) × (length entries.old ≡ 729) × (length words.old ≡ 4010) }
-    ensures result_value { counted_as result ≡ synthesize_answer lines table.now (length room.old) }
+    ensures answer { counted_as result ≡ synthesize_answer lines table.now (length room.old) }
     ensures room_after { room.new ≡ synthesize_room lines table.now room.old }
 {
     if let Checked::Refused { number, place } = tables::check_inverting(lines, table, inverse) {
@@ -62,7 +62,7 @@ fn synthesize_in(
 
 // The cascade of a table, written to the start of the room. The answer is its number of gates, or a refusal 1 to 5.
 pub fn synthesize(lines: u8, table: &[u16], room: &mut [u8]) -> Counted
-    ensures result_value { counted_as result ≡ synthesize_answer lines table.now (length room.old) }
+    ensures answer { counted_as result ≡ synthesize_answer lines table.now (length room.old) }
     ensures room_after { room.new ≡ synthesize_room lines table.now room.old }
 {
     let mut inverse = [0u16; 729];

@@ -18,7 +18,7 @@ pub enum Checked {
 // the lent array.
 pub fn check_entries(patterns: u16, table: &[u16], inverse: &mut [u16]) -> Checked
     requires { (patterns ≤ 729) × (length inverse.old ≡ 729) }
-    ensures result_value { checked_as result ≡ on_table patterns table.now (accepted []) }
+    ensures answer { checked_as result ≡ on_table patterns table.now (accepted []) }
     ensures inverted { checked_as result ≡ accepted [] → Inverted patterns table.now (take patterns inverse.new) }
 {
     if table.len() != patterns as usize {
@@ -47,7 +47,7 @@ pub fn check_entries(patterns: u16, table: &[u16], inverse: &mut [u16]) -> Check
 // Refusals 1, 2, 3 and 4 of a table on so many lines, and its inverse.
 pub fn check_inverting(lines: u8, table: &[u16], inverse: &mut [u16]) -> Checked
     requires { length inverse.old ≡ 729 }
-    ensures result_value { checked_as result ≡ check_table_answer lines table.now }
+    ensures answer { checked_as result ≡ check_table_answer lines table.now }
     ensures inverted { checked_as result ≡ accepted [] → Inverted (3 ^ lines) table.now (take (3 ^ lines) inverse.new) }
 {
     if !card::lines_ok(lines) {

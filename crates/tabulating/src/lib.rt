@@ -20,7 +20,7 @@ pub enum Tabulated {
 
 // The table that the cascade computes, into a room for entries: refusals 1, 6, 7, 5.
 pub fn tabulate(lines: u8, cascade: &[u8], room: &mut [u16]) -> Tabulated
-    ensures result_value { tabulated_as result ≡ tabulate_answer lines cascade.now (length room.old) }
+    ensures answer { tabulated_as result ≡ tabulate_answer lines cascade.now (length room.old) }
     ensures room_after { room.new ≡ tabulate_room lines cascade.now room.old }
 {
     match cascades::check_cascade(lines, cascade) {

@@ -20,7 +20,7 @@ pub enum Tidied {
 
 // The cascade, tidied in the lent buffer: refusals 1, 6, 7.
 pub fn tidy(lines: u8, cascade: &mut [u8]) -> Tidied
-    ensures result_value { tidied_as result ≡ tidy_answer lines cascade.old }
+    ensures answer { tidied_as result ≡ tidy_answer lines cascade.old }
     ensures cascade_after { cascade.new ≡ tidy_buffer lines cascade.old }
 {
     match cascades::check_cascade(lines, cascade) {
