@@ -7,9 +7,7 @@ use borrow.Author.Tests.{eqb-true}
 use Rattle.ranges.specs.Ranges.{every}
 use Rattle.ranges.proofs.Tests.{every_below}
 use Rattle.rules.specs.Places.{is_c, same_type}
-use borrow.Author.Rules.{rules}
-use Rattle.rules.proofs.passing.types_apart.Statement.{statement}
-use Rattle.rules.proofs.passing.types_apart.Tie as tie
+use Rattle.rules.proofs.passing.types_apart.Goals as goal
 
 bit_test : ℕ → ℕ → Bool
 bit_test a b = eqb (0x1f2f_3739_393e / 2 ^ (8 * a + b) % 2) (cond (not (same_type a b)) 1 0)
@@ -18,17 +16,5 @@ bit_is : (a b : ℕ) → a < 6 → b < 6 → 0x1f2f_3739_393e / 2 ^ (8 * a + b) 
 unfolding bit_test every same_type is_c
 bit_is a b la lb = eqb-true _ _ (every_below (bit_test a) 6 (every_below (λ x. every (bit_test x) 0 6) 6 refl a la) b lb)
 
-mul-result : tie.Need-mul-result
-mul-result c = search rules
-
-add-result : tie.Need-add-result
-add-result c = search rules
-
-shr-result : tie.Need-shr-result
-shr-result c = search rules
-
-returns : tie.Need-returns
-returns c = bit_is _ _ c.pre.0 c.pre.1
-
-pub types-apart-spec : {M : Type 1} → statement M
-types-apart-spec = tie.close (tie.spec mul-result add-result shr-result returns)
+pub returns : goal.returns
+returns c = bit_is _ _ c.requires.0 c.requires.1

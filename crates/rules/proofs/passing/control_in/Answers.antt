@@ -8,21 +8,13 @@ use Rattle.gates.specs.Gates.{control}
 use Rattle.gates.specs.Inner.Words.{gate_of}
 use Rattle.gates.proofs.Bytes.{eight_bits}
 use Rattle.rules.proofs.PairWords.{control_in_lem}
-use borrow.Author.Rules.{rules}
-use Rattle.rules.proofs.passing.control_in.Statement.{statement}
-use Rattle.rules.proofs.passing.control_in.Tie as tie
+use Rattle.rules.proofs.passing.control_in.Goals as goal
 
-mul-result : tie.Need-overflow-mul-result
-mul-result c = search rules
+pub overflow_shr-result : goal.overflow_shr-result
+overflow_shr-result c = omega (arith, c.requires.1)
 
-shr-result : tie.Need-overflow-shr-result
-shr-result c = omega (arith, c.requires.1)
-
-returns : tie.Need-returns
+pub returns : goal.returns
 unfolding digit
 returns c =
     let e : c.args.w / 0x1_0000 / 2 ^ (8 * c.args.t) % 256 ≡ control (gate_of c.args.w) c.args.t = rw (eight_bits c.args.t c.requires.1) (control_in_lem c.args.w c.args.t c.requires.0 c.requires.1) in
     (e, rw e (digit_lt 4 c.args.t (gate_of c.args.w).controls (omega arith)))
-
-pub control-in-spec : {M : Type 1} → statement M
-control-in-spec = tie.close (tie.spec mul-result shr-result returns)
