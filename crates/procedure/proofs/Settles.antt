@@ -2,7 +2,7 @@
 -- present entries back to the given ones, and so the cascade computes the table (`computes`); each gate was asked for (`gates_made`); and no pattern is missed
 -- (`reaches`), since the identity misses none and a gate changes nothing in that. It rests on `mixed`: row i never meets an entry below i. Assumes nothing.
 use mathlib.Core.Path.{◌≡◌, refl, sym, ap, ◌∙◌}
-use mathlib.Core.Logic.{◌⊎◌, ⊎_elim}
+use mathlib.Core.Logic.{⊎_elim}
 use mathlib.Core.List.{List, map}
 use Prim.Native.Nat.{ℕ, zero, suc, ◌+◌, ◌^◌, ◌≤◌, ◌<◌}
 use native.Mathlib.Nat.{eq-or-lt_of_le, le_of_suc-le-suc, le_refl, add-zero}

@@ -9,13 +9,13 @@ use Rattle.tables.proofs.check_entries.Goals as goal
 
 pub returns-then-table-patterns : goal.returns-then-table-patterns
 returns-then-table-patterns c = record {
-  result_value = check_size _ _ c.if-table-patterns.true;
+  answer = check_size _ _ c.if-table-patterns.true;
   inverted = not_accepted 2 0 [];
 }
 
 pub returns-then-large-table : goal.returns-then-large-table
 returns-then-large-table c = record {
-  result_value = check_large _ _ c.if-table-patterns.false _ c.first_large-large.ensures c.if-large-table.true;
+  answer = check_large _ _ c.if-table-patterns.false _ c.first_large-large.ensures c.if-large-table.true;
   inverted = not_accepted 3 _ [];
 }
 
@@ -28,13 +28,13 @@ invert_entries-twin-requires c =
 
 pub returns-then-twin-table : goal.returns-then-twin-table
 returns-then-twin-table c = record {
-  result_value = check_repeated _ _ c.if-table-patterns.false _ c.first_large-large.ensures c.if-large-table.false _ c.invert_entries-twin.ensures.value c.if-twin-table.true;
+  answer = check_repeated _ _ c.if-table-patterns.false _ c.first_large-large.ensures c.if-large-table.false _ c.invert_entries-twin.ensures.value c.if-twin-table.true;
   inverted = not_accepted 4 _ [];
 }
 
 pub returns : goal.returns
 returns c =
     let w = check_none _ _ c.if-table-patterns.false _ c.first_large-large.ensures c.if-large-table.false _ c.invert_entries-twin.ensures.value c.if-twin-table.false in record {
-      result_value = w.0;
+      answer = w.0;
       inverted = λ _. inverted _ _ _ _ w.1 (omega (arith, c.requires.0, c.requires.1, c.invert_entries-twin.auto.inverse)) c.if-twin-table.false c.invert_entries-twin.ensures.back;
     }

@@ -21,7 +21,7 @@ module _ (c : Else-not-lines_ok) where
 pub returns-then-not-lines_ok : goal.returns-then-not-lines_ok
 unfolding check_table_answer
 returns-then-not-lines_ok c = record {
-  result_value = sym (no_lines _ _ (sym c.lines_ok.ensures ∙ c.if-not-lines_ok.true));
+  answer = sym (no_lines _ _ (sym c.lines_ok.ensures ∙ c.if-not-lines_ok.true));
   inverted = not_accepted 1 0 [];
 }
 
@@ -37,6 +37,6 @@ returns c =
     let e = c.check_entries.ensures in
     let p = c.power.ensures in
     let good = good_lines _ _ (six (goal.at.returns c).Else-not-lines_ok) in record {
-      result_value = rw p at e.result_value ∙ sym good;
+      answer = rw p at e.answer ∙ sym good;
       inverted = λ a. rw p at (e.inverted a);
     }
