@@ -46,8 +46,5 @@ loop-x-smaller c = rw length-set (omega arith)
 pub loop-x-preserved : goal.loop-x-preserved
 loop-x-preserved c = clearing_next _ _ _ _ (omega (arith, clearing_length _ _ _ _ c.loop-x.invariant)) c.loop-x.invariant
 
-pub shape_of-b : goal.shape_of-b
-shape_of-b c = clearing_length _ _ _ _ c.loop-x.invariant
-
 pub returns : goal.returns
 returns c = clearing_end _ _ _ _ (omega (arith, clearing_length _ _ _ _ c.loop-x.invariant)) c.loop-x.invariant

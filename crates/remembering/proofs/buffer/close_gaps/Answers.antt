@@ -12,8 +12,5 @@ keep_record-q-requires c = (closing_order _ _ _ _ _ c.requires (gates_inside _ _
 pub loop-p-preserved : goal.loop-p-preserved
 loop-p-preserved c = closing_next _ _ _ _ _ c.requires (gates_inside _ _ _ c.loop-p-test.true) c.loop-p.invariant _ _ c.keep_record-q.ensures
 
-pub shape_of-b : goal.shape_of-b
-shape_of-b c = c.loop-p.invariant.len
-
 pub returns : goal.returns
 returns c = closing_end _ _ _ _ _ c.requires (omega (arith, length_gates c.args.b.now c.args.m, c.loop-p-test.false)) c.loop-p.invariant

@@ -42,8 +42,5 @@ loop-r-preserved c =
       within = omega (arith, c.loop-r-test.true);
     }
 
-pub shape_of-far : goal.shape_of-far
-shape_of-far c = c.loop-r.invariant.again.len
-
 pub returns : goal.returns
 returns c = again_wide _ _ _ _ _ _ _ _ (omega (arith, c.loop-r.invariant.within, c.nearer-end.ensures)) (λ l. omega (arith, c.nearer-end.ensures, c.loop-r-test.false)) c.loop-r.invariant.again

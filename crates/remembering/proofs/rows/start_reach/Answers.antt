@@ -14,9 +14,6 @@ bounds-reach-s c = omega (arith, filling_length _ _ _ _ c.loop-s.invariant.1, c.
 pub loop-s-preserved : goal.loop-s-preserved
 loop-s-preserved c = (search rules, filling_next _ _ _ _ c.loop-s.invariant.1 0 _ refl (omega (arith, c.requires)))
 
-pub shape_of-reach : goal.shape_of-reach
-shape_of-reach c = filling_length _ _ _ _ c.loop-s.invariant.1
-
 pub returns : goal.returns
 unfolding filled
 returns c = let e : c.loop-s.s ≡ c.args.n = omega (arith, c.loop-s.invariant.0) in rw e at c.loop-s.invariant.1.is

@@ -14,9 +14,6 @@ bounds-far-r c = omega (arith, filling_length _ _ _ _ c.loop-r.invariant.1, c.re
 pub loop-r-preserved : goal.loop-r-preserved
 loop-r-preserved c = (search rules, filling_next _ _ _ _ c.loop-r.invariant.1 0 _ refl (omega (arith, c.requires)))
 
-pub shape_of-far : goal.shape_of-far
-shape_of-far c = filling_length _ _ _ _ c.loop-r.invariant.1
-
 pub returns : goal.returns
 unfolding filled
 returns c = let e : c.loop-r.r ≡ c.args.m = omega (arith, c.loop-r.invariant.0) in rw e at c.loop-r.invariant.1.is

@@ -48,8 +48,5 @@ overflow_add-marks c = omega (arith, c.requires.1, c.requires.0.few)
 pub bounds-marks-s-3 : goal.bounds-marks-s-3
 bounds-marks-s-3 c = rw (length-set c.args.marks.now (2 * c.args.s) c.stretch_of-here.result.types) (slot (goal.at.bounds-marks-s-3 c).Start)
 
-pub shape_of-marks : goal.shape_of-marks
-shape_of-marks c = simp length-set
-
 pub returns : goal.returns
 returns c = marked_look _ _ _ _ _ (inside (goal.at.returns c).Start) c.requires.0.marked c.stretch_of-here.ensures
