@@ -5,6 +5,7 @@ ghost use Rattle.std.specs.Prelude.{◌<◌, ◌≤◌, length};
 use crate::adding::{add_cascade, add_table};
 use crate::sums::Sums;
 use drawing::draws::Manner;
+use std::io;
 
 // All tables on two lines, from the identity on: 9! = 362,880 of them.
 fn sum_all_tables(
@@ -103,17 +104,17 @@ fn sum_cascades(
 }
 
 // Rooms of 112 bytes take the 14 records that synthesis asks for at two lines.
-pub fn print_all_tables() {
+pub fn print_all_tables(rt: &impl Print) -> io::Result<()> {
     let mut table = [0u16; 9];
     let mut room = [0u8; 112];
     let mut inverse = [0u8; 112];
     let mut entries = [0u16; 9];
     let sums = sum_all_tables(&mut table, &mut room, &mut inverse, &mut entries);
-    crate::printing::print_family(b"tables ", 2, sums);
+    crate::printing::print_family(rt, b"tables ", 2, sums)
 }
 
 // Rooms of 32,080 bytes take the 4,010 records that synthesis asks for at six lines.
-pub fn print_drawn_tables(lines: u8, seed: u32, count: u32)
+pub fn print_drawn_tables(rt: &impl Print, lines: u8, seed: u32, count: u32) -> io::Result<()>
     requires { lines ≤ 6 }
 {
     let size = digits::power(lines as usize) as usize;
@@ -129,11 +130,18 @@ pub fn print_drawn_tables(lines: u8, seed: u32, count: u32)
         &mut inverse,
         &mut entries,
     );
-    crate::printing::print_family(b"tables ", lines, sums);
+    crate::printing::print_family(rt, b"tables ", lines, sums)
 }
 
 // Cascades of 60 gates.
-pub fn print_cascades(name: &[u8], kind: Kind, lines: u8, seed: u32, count: u32)
+pub fn print_cascades(
+    rt: &impl Print,
+    name: &[u8],
+    kind: Kind,
+    lines: u8,
+    seed: u32,
+    count: u32,
+) -> io::Result<()>
     requires { (0 < lines) × (lines ≤ 6) }
 {
     let mut cascade = [0u8; 480];
@@ -141,11 +149,11 @@ pub fn print_cascades(name: &[u8], kind: Kind, lines: u8, seed: u32, count: u32)
     let mut entries = [0u16; 729];
     let drawn = Drawn { lines, seed, count };
     let sums = sum_cascades(kind, drawn, &mut cascade, &mut inverse, &mut entries);
-    crate::printing::print_family(name, lines, sums);
+    crate::printing::print_family(rt, name, lines, sums)
 }
 
 // Cascades of 8,000 gates.
-pub fn print_long_cascades(lines: u8, seed: u32, count: u32)
+pub fn print_long_cascades(rt: &impl Print, lines: u8, seed: u32, count: u32) -> io::Result<()>
     requires { (0 < lines) × (lines ≤ 6) }
 {
     let mut cascade = [0u8; 64000];
@@ -154,5 +162,5 @@ pub fn print_long_cascades(lines: u8, seed: u32, count: u32)
     let drawn = Drawn { lines, seed, count };
     let kind = Kind::Turns;
     let sums = sum_cascades(kind, drawn, &mut cascade, &mut inverse, &mut entries);
-    crate::printing::print_family(b"long ", lines, sums);
+    crate::printing::print_family(rt, b"long ", lines, sums)
 }

@@ -26,9 +26,9 @@ module _ (f room note_room : List ℕ) where
     pub is : vs ≡ lines_in f ∷ count f ∷ start_of 8 f ∷ []
 
   pub read_refused : (k p : ℕ) → read_answer f (length room) (length note_room) ≡ refused k p
-      → (refused k p ≡ read_answer f (length room) (length note_room)) × ((room ≡ read_records f room note_room) × (note_room ≡ read_note f room note_room))
+      → record { answer : refused k p ≡ read_answer f (length room) (length note_room); records_after : room ≡ read_records f room note_room; note_after : note_room ≡ read_note f room note_room }
   unfolding read_records read_note
-  read_refused k p e = (sym e, ((refused_both _ k p _ room e).1, (refused_both _ k p _ note_room e).1))
+  read_refused k p e = record { answer = sym e; records_after = (refused_both _ k p _ room e).room_after; note_after = (refused_both _ k p _ note_room e).room_after }
 
   module _ (r : Right 8 1 f) (w : Whole (lines_in f) (records_of 8 f) (count f)) where
     pub read_records_small : length room / 8 < count f → read_answer f (length room) (length note_room) ≡ refused 5 (count f)
@@ -48,10 +48,9 @@ module _ (f room note_room : List ℕ) where
             on_file_passed 8 1 f r w _ ∙ refusing_no _ 5 (count f) _ (le-ltb (length room / 8) (count f) fits) ∙ refusing_no _ 5 (start_of 8 f) _ (le-ltb (length note_room) (start_of 8 f) fits')
 
         pub read_done : (now note_now : List ℕ) → now ≡ laid (records_of 8 f) room → note_now ≡ laid (note_of 8 f) note_room
-            → (accepted (lines_in f ∷ count f ∷ start_of 8 f ∷ []) ≡ read_answer f (length room) (length note_room))
-            × ((now ≡ read_records f room note_room) × (note_now ≡ read_note f room note_room))
+            → record { answer : accepted (lines_in f ∷ count f ∷ start_of 8 f ∷ []) ≡ read_answer f (length room) (length note_room); records_after : now ≡ read_records f room note_room; note_after : note_now ≡ read_note f room note_room }
         unfolding read_records read_note
-        read_done now note_now e e' = (sym read_accepted, ((accepted_both _ _ _ room now read_accepted e).1, (accepted_both _ _ _ note_room note_now read_accepted e').1))
+        read_done now note_now e e' = record { answer = sym read_accepted; records_after = (accepted_both _ _ _ room now read_accepted e).room_after; note_after = (accepted_both _ _ _ note_room note_now read_accepted e').room_after }
 
   pub reads_into : (vs : List ℕ) → read_answer f (length room) (length note_room) ≡ accepted vs → ReadsInto vs
   unfolding read_answer

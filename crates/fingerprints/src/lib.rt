@@ -3,6 +3,8 @@
 
 ghost use Rattle.std.specs.Prelude.{◌<◌};
 
+use std::io;
+
 // The digest of nothing.
 pub const EMPTY: u32 = 0x811c_9dc5;
 
@@ -44,7 +46,7 @@ fn digest_entry(digest: u32, entry: u16) -> u32 {
 }
 
 // Eight digits in base 16, and what is to stand behind them.
-pub fn print_digest(digest: u32, behind: &[u8]) {
-    io::print_hex(1, digest as u64, 8);
-    io::write_all(1, behind);
+pub fn print_digest(rt: &impl Print, digest: u32, behind: &[u8]) -> io::Result<()> {
+    print!(rt; "{digest:08x}")?;
+    rt.write_all(behind)
 }

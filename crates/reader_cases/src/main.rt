@@ -2,58 +2,58 @@
 #![tactic(auto)]
 
 use readers::Given;
+use std::io::Read;
+use std::{env, io};
 
-fn print_number(word: &[u8], number: usize) {
-    io::write_all(1, word);
-    io::print_decimal(1, number as u64);
+fn print_number(rt: &impl Print, word: &[u8], number: usize) -> io::Result<()> {
+    rt.write_all(word)?;
+    rt.print(number)
 }
 
-fn print_given(given: Given) {
+fn print_given(rt: &impl Print, given: Given) -> io::Result<()> {
     match given {
         Given::Gate {
             operator,
             target,
             controls,
         } => {
-            print_number(b"gate ", operator as usize);
-            print_number(b" ", target as usize);
-            print_number(b" ", controls as usize);
+            print_number(rt, b"gate ", operator as usize)?;
+            print_number(rt, b" ", target as usize)?;
+            print_number(rt, b" ", controls as usize)?;
         }
         Given::End => {
-            io::write_all(1, b"end");
+            rt.write_all(b"end")?;
         }
         Given::Refused { number, place } => {
-            print_number(b"refused ", number as usize);
-            print_number(b" at ", place);
+            print_number(rt, b"refused ", number as usize)?;
+            print_number(rt, b" at ", place)?;
         }
     }
-    io::write_all(1, b"\n");
+    rt.write_all(b"\n")
 }
 
 // So many turns of one reader.
-fn print_turns(file: &[u8], turns: usize) {
+fn print_turns(rt: &impl Print, file: &[u8], turns: usize) -> io::Result<()> {
     let mut reader = readers::open(file);
     let mut left = turns;
     while 0 < left {
-        print_given(readers::next(&mut reader));
+        print_given(rt, readers::next(&mut reader))?;
         left = left - 1;
     }
+    Ok(())
 }
 
 // One turn for each record that the file has room for, its trailer among them, and one more: the end is seen at least twice.
-fn print_file(input: i32) {
+fn print_file<R: Read>(rt: &impl Print, input: &mut R) -> io::Result<()> {
     let mut file = [0u8; 2048];
-    let n = io::read_full(input, &mut file);
-    print_turns(&file[..n], n / 8 + 1);
+    let n = streams::read_full(input, &mut file)?;
+    print_turns(rt, &file[..n], n / 8 + 1)
 }
 
-fn main() {
-    let count = os::arg_count();
-    let mut i = 1;
-    while i < count {
-        let input = arguments::open_argument(i);
-        print_file(input);
-        libc::close(input);
-        i += 1;
+fn main(rt: HostRuntime) -> io::Result<()> {
+    for name in env::args(&rt)?.skip(1) {
+        let mut input = arguments::open_argument(&rt, &name)?;
+        print_file(&rt, &mut input)?;
     }
+    Ok(())
 }

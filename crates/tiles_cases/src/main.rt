@@ -1,13 +1,12 @@
 // What the program prints of each file that an argument names, under the file's name.
 #![tactic(auto)]
 
-fn main() {
-    let count = os::arg_count();
-    let mut i = 1;
-    while i < count {
-        let input = arguments::open_argument(i);
-        streams::print_sheet(input);
-        libc::close(input);
-        i += 1;
+use std::{env, io};
+
+fn main(rt: HostRuntime) -> io::Result<()> {
+    for name in env::args(&rt)?.skip(1) {
+        let mut input = arguments::open_argument(&rt, &name)?;
+        streams::print_sheet(&rt, &mut input)?;
     }
+    Ok(())
 }

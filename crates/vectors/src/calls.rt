@@ -4,6 +4,7 @@ use crate::lines::print_case;
 use crate::serial::show_serial;
 use exports::Numbers;
 use fingerprints::{EMPTY, digest_bytes, digest_entries};
+use std::io;
 
 // check_table and synthesize.
 pub fn takes_table(call: u32) -> bool {
@@ -61,13 +62,14 @@ fn digest_cheaper<'a>(lines: u8, value: u8, fitted: u8, first: &'a [u8], second:
 
 // Performs the call and prints its line. In choose, which has no room, what cheaper hands back stands for it.
 pub fn show_call(
+    rt: &impl Print,
     case: StoredCase,
     table: &[u16],
     bytes: &mut [u8],
     more: &[u8],
     room: &mut [u8],
     note: &mut [u8],
-) {
+) -> io::Result<()> {
     let call = case.call;
     let told = perform(case, table, bytes, more, room, note);
     let of_room = if call == 9 {
@@ -76,38 +78,48 @@ pub fn show_call(
         digest_bytes(EMPTY, room)
     };
     print_case(
+        rt,
         call,
         told,
         digest_given(call, table, bytes),
         digest_bytes(EMPTY, more),
         of_room,
         digest_bytes(EMPTY, note),
-    );
+    )
 }
 
 // The same of tabulate.
-fn show_tabulate(case: StoredCase, bytes: &[u8], more: &[u8], entries: &mut [u16], note: &[u8]) {
+fn show_tabulate(
+    rt: &impl Print,
+    case: StoredCase,
+    bytes: &[u8],
+    more: &[u8],
+    entries: &mut [u16],
+    note: &[u8],
+) -> io::Result<()> {
     print_case(
+        rt,
         case.call,
         exports::tiles_tabulate(case.lines, bytes, entries),
         digest_bytes(EMPTY, bytes),
         digest_bytes(EMPTY, more),
         digest_entries(EMPTY, entries),
         digest_bytes(EMPTY, note),
-    );
+    )
 }
 
 // The same of the calls whose room is one for entries; serial has no note.
 pub fn show_call_with_entries(
+    rt: &impl Print,
     case: StoredCase,
     bytes: &[u8],
     more: &[u8],
     entries: &mut [u16],
     note: &[u8],
-) {
+) -> io::Result<()> {
     if case.call == 5 {
-        show_tabulate(case, bytes, more, entries, note);
+        show_tabulate(rt, case, bytes, more, entries, note)
     } else {
-        show_serial(case, bytes, more, entries);
+        show_serial(rt, case, bytes, more, entries)
     }
 }

@@ -4,6 +4,8 @@ ghost use Rattle.std.specs.Prelude.{◌*◌, ◌≤◌, length};
 
 use crate::heads::StoredCase;
 use crate::{calls, rooms};
+use std::io;
+use std::io::Read;
 
 // The record again and again.
 fn repeat(record: &[u8], part: &mut [u8])
@@ -17,14 +19,19 @@ fn repeat(record: &[u8], part: &mut [u8])
 }
 
 // The record so many times, and behind it what the input has next; false where the input ends before the bytes are full.
-fn lay_bytes(record: &[u8], times: u32, bytes: &mut [u8]) -> bool
+fn lay_bytes<R: Read>(
+    input: &mut R,
+    record: &[u8],
+    times: u32,
+    bytes: &mut [u8],
+) -> io::Result<bool>
     requires in_bounds { 8 ≤ length «record».now }
     requires times_in_bounds { 8 * times ≤ length bytes.old }
 {
     let start = 8 * times as usize;
     let stored = bytes.len() - start;
     repeat(record, &mut bytes[0..start]);
-    io::read_full(0, &mut bytes[start..]) == stored
+    Ok(streams::read_full(input, &mut bytes[start..])? == stored)
 }
 
 // Two bytes, the low one first.
@@ -44,26 +51,28 @@ fn lay_table(bytes: &[u8], table: &mut [u16])
 }
 
 // Fills the memory with what the case gives, and goes on.
-fn show_laid(
+fn show_laid<R: Read>(
+    rt: &impl Print,
+    input: &mut R,
     case: StoredCase,
     record: &[u8],
     table: &mut [u16],
     bytes: &mut [u8],
     more: &mut [u8],
-) -> bool
+) -> io::Result<bool>
     requires in_bounds { 8 ≤ length «record».now }
     requires times_in_bounds { 8 * case.times ≤ length bytes.old }
     requires more_times_in_bounds { 8 * case.more_times ≤ length more.old }
     requires table_in_bounds { 2 * length table.old ≤ length bytes.old }
 {
-    if !lay_bytes(record, case.times, bytes) {
-        return false;
+    if !lay_bytes(input, record, case.times, bytes)? {
+        return Ok(false);
     }
-    if !lay_bytes(record, case.more_times, more) {
-        return false;
+    if !lay_bytes(input, record, case.more_times, more)? {
+        return Ok(false);
     }
     lay_table(bytes, table);
-    rooms::show_in_rooms(case, table, bytes, more)
+    rooms::show_in_rooms(rt, case, table, bytes, more)
 }
 
 // How much is lent of something: nothing where the call doesn't take it.
@@ -74,13 +83,15 @@ fn lent(taken: bool, size: usize) -> usize
 }
 
 // Lends as much as the case gives, if there is as much.
-fn lend_given(
+fn lend_given<R: Read>(
+    rt: &impl Print,
+    input: &mut R,
     case: StoredCase,
     record: &[u8],
     table: &mut [u16],
     bytes: &mut [u8],
     more: &mut [u8],
-) -> bool
+) -> io::Result<bool>
     requires { 8 ≤ length «record».now }
 {
     let in_bytes = 8 * case.times as usize + case.stored as usize;
@@ -88,9 +99,11 @@ fn lend_given(
     let tabled = lent(calls::takes_table(case.call), in_bytes);
     let in_table = tabled / 2;
     if in_bytes > bytes.len() || in_more > more.len() || tabled % 2 > 0 || in_table > table.len() {
-        return false;
+        return Ok(false);
     }
     show_laid(
+        rt,
+        input,
         case,
         record,
         &mut table[0..in_table],
@@ -100,11 +113,16 @@ fn lend_given(
 }
 
 // Reads what the case gives, performs its call and prints its line; false where it has more than it may, or the input ends before it.
-pub fn show_case(case: StoredCase, record: &[u8]) -> bool
+pub fn show_case<R: Read>(
+    rt: &impl Print,
+    input: &mut R,
+    case: StoredCase,
+    record: &[u8],
+) -> io::Result<bool>
     requires { 8 ≤ length «record».now }
 {
     let mut table = [0u16; 1024];
     let mut bytes = [0u8; 65536];
     let mut more = [0u8; 65536];
-    lend_given(case, record, &mut table, &mut bytes, &mut more)
+    lend_given(rt, input, case, record, &mut table, &mut bytes, &mut more)
 }

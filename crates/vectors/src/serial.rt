@@ -8,6 +8,7 @@ use crate::lines::print_case;
 use exports::Numbers;
 use fingerprints::{EMPTY, digest_bytes, digest_entries};
 use serials::{Reply, Serial};
+use std::io;
 
 // A reader with what it told last, and the digest of all that it told.
 #[derive(Clone, Copy)]
@@ -77,22 +78,36 @@ fn feed(lines: u8, text: &[u8], lengths: &[u8]) -> Noted {
 }
 
 // Makes the calls, the last of them with the other table, and prints the line.
-fn show_fed(case: StoredCase, text: &[u8], lengths: &[u8], table: &mut [u16], other: &mut [u16]) {
+fn show_fed(
+    rt: &impl Print,
+    case: StoredCase,
+    text: &[u8],
+    lengths: &[u8],
+    table: &mut [u16],
+    other: &mut [u16],
+) -> io::Result<()> {
     let ended = note_end(feed(case.lines, text, lengths), table);
     let again = note_end(note_part(ended, text), other);
     print_case(
+        rt,
         case.call,
         ended.told,
         digest_bytes(EMPTY, text),
         digest_bytes(EMPTY, lengths),
         digest_entries(EMPTY, table),
         digest_entries(again.digest, other),
-    );
+    )
 }
 
 // The calls of serial and their line; what they told, and the table that the last end has, stand for the note.
-pub fn show_serial(case: StoredCase, text: &[u8], lengths: &[u8], table: &mut [u16]) {
+pub fn show_serial(
+    rt: &impl Print,
+    case: StoredCase,
+    text: &[u8],
+    lengths: &[u8],
+    table: &mut [u16],
+) -> io::Result<()> {
     let entry = heads::fill_entry(case.fill);
     let mut other = [entry; 1024];
-    show_fed(case, text, lengths, table, &mut other);
+    show_fed(rt, case, text, lengths, table, &mut other)
 }
