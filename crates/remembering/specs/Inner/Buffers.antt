@@ -1,5 +1,5 @@
 -- What the lent buffer holds on the way: cited by the contracts of inner functions alone.
-use Rattle.std.specs.Prelude.{◌≡◌, Bool, true, false, cond, List, [], ◌∷◌, ℕ, zero, suc, ◌+◌, ◌-◌, ◌*◌, ◌^◌, ◌<◌, ◌≤◌, eqb, length, get_or}
+use Rattle.std.specs.Prelude.{◌≡◌, Bool, true, false, cond, List, [], ◌∷◌, ℕ, zero, suc, ◌+◌, ◌*◌, ◌^◌, ◌<◌, ◌≤◌, eqb, length, get_or}
 use Rattle.ranges.specs.Ranges.{span}
 use Rattle.ranges.specs.Lists.{Each}
 use Rattle.gates.specs.declared.Gate.{Gate}
