@@ -3,7 +3,7 @@ use mathlib.Core.Path.{◌≡◌, refl, sym, ap, ◌∙◌}
 use mathlib.Core.Bool.{true, false}
 use mathlib.Core.Logic.{⊎_elim}
 use mathlib.Core.List.{List, [], ◌∷◌, ◌++◌, append_assoc}
-use Prim.Native.Nat.{ℕ, zero, suc, ◌+◌, ◌-◌, ◌%◌, ◌^◌, ◌≤◌, ◌<◌}
+use Prim.Native.Nat.{ℕ, zero, suc, ◌+◌, ◌%◌, ◌^◌, ◌≤◌, ◌<◌}
 use native.Mathlib.Nat.{mod-lt}
 use native.Mathlib.Numerals.{add-one}
 use native.Mathlib.Decide.{ℕ_discrete}
@@ -119,7 +119,7 @@ module _ (g : Gate) (l : List ℕ) where
 
 pub parts : (g : Gate) → g.target < 10 → gate_text other_name g ≡ other_name g.operator ++ (32 ∷ 120 ∷ (48 + g.target) ∷ left g 0 6)
 unfolding gate_text
-parts g lt = rw (line_text_lem g.target lt, append_assoc, append_assoc)
+parts g lt = rw (line_text_lem g.target lt) (simp append_assoc)
 
 record Head (o t : ℕ) (r l : List ℕ) : Type 0 where
   op : operator_in l ≡ o

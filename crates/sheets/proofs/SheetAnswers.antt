@@ -58,11 +58,11 @@ module _ (f : List ℕ) where
   -- ---- the call, by the size of the room
 
   module _ (room : List ℕ) (size : ℕ) (is : size ≡ length (sheet_text f)) where
-    pub sheet_small : length room < size → (refused 5 size ≡ sheet_answer f (length room)) × (room ≡ sheet_room f room)
+    pub sheet_small : length room < size → record { answer : refused 5 size ≡ sheet_answer f (length room); room_after : room ≡ sheet_room f room }
     unfolding sheet_answer sheet_room
     sheet_small lt = rw is (refused_both _ 5 (length (sheet_text f)) _ room (refusing_yes _ 5 _ _ (lt-ltb (length room) (length (sheet_text f)) (omega arith))))
 
-    pub sheet_written : size ≤ length room → (now : List ℕ) → now ≡ sets room 0 (sheet_text f) → (accepted (size ∷ []) ≡ sheet_answer f (length room)) × (now ≡ sheet_room f room)
+    pub sheet_written : size ≤ length room → (now : List ℕ) → now ≡ sets room 0 (sheet_text f) → record { answer : accepted (size ∷ []) ≡ sheet_answer f (length room); room_after : now ≡ sheet_room f room }
     unfolding sheet_answer sheet_room
     sheet_written le now e =
         rw is

@@ -15,14 +15,14 @@ use Rattle.synthesis.proofs.Synthesis.{synthesized_bound}
 
 module _ (n : ℕ) (t room : List ℕ) where
   -- 1 2 3 4
-  pub refused_table : (k p : ℕ) → refused k p ≡ check_table_answer n t → (refused k p ≡ synthesize_answer n t (length room)) × (room ≡ synthesize_room n t room)
+  pub refused_table : (k p : ℕ) → refused k p ≡ check_table_answer n t → record { answer : refused k p ≡ synthesize_answer n t (length room); room_after : room ≡ synthesize_room n t room }
   unfolding synthesize_answer synthesize_room
   refused_table k p e = refused_both _ k p _ room (checked_refused n t k p (sym e) _)
 
   module _ (e : accepted [] ≡ check_table_answer n t) where
     -- 5
     pub refused_room : (most : ℕ) → most ≡ bound n → length room / 8 < most
-        → (refused 5 most ≡ synthesize_answer n t (length room)) × (room ≡ synthesize_room n t room)
+        → record { answer : refused 5 most ≡ synthesize_answer n t (length room); room_after : room ≡ synthesize_room n t room }
     unfolding synthesize_answer synthesize_room
     refused_room most is_bound lt =
         refused_both _ 5 most _ room
@@ -36,7 +36,7 @@ module _ (n : ℕ) (t room : List ℕ) where
           omega (arith, is_bound, le, synthesized_bound n t (lines_are n w.0).1 w.1)
 
       pub accepted_cascade : (m : ℕ) (room' : List ℕ) → m ≡ length (synthesized n t) → room' ≡ laid (bytes_of (synthesized n t)) room
-          → (accepted (m ∷ []) ≡ synthesize_answer n t (length room)) × (room' ≡ synthesize_room n t room)
+          → record { answer : accepted (m ∷ []) ≡ synthesize_answer n t (length room); room_after : room' ≡ synthesize_room n t room }
       unfolding synthesize_answer synthesize_room
       accepted_cascade m room' em er =
           accepted_both _ (m ∷ []) _ room room'
