@@ -71,7 +71,7 @@ pub fn apply_rule(
 ) -> usize
     requires { Remembers b.old far.old reach.old marks.old m pair.i × (pair.i < m) × PairAt (gates_in b.old m) pair.i pair.j }
     ensures remembers { Remembers b.new far.new reach.new marks.new m result }
-    ensures m_after { ungapped (gates_in b.new m) ≡ ruled (ungapped (gates_in b.old m)) (rank (gates_in b.old m) pair.i) (rank (gates_in b.old m) pair.j) }
+    ensures gates_after { ungapped (gates_in b.new m) ≡ ruled (ungapped (gates_in b.old m)) (rank (gates_in b.old m) pair.i) (rank (gates_in b.old m) pair.j) }
 {
     let left = leave_pair(
         remembering::views::row_word(b, m, pair.i),

@@ -70,5 +70,5 @@ returns c =
     let late = rw c.plan_change-late.ensures.0 at c.replace-low.ensures in
     let early = rw c.plan_change-early.ensures.0 at c.replace.ensures in record {
       remembers = early.0;
-      m_after = rw (early.2, late.2, left_is (goal.at.returns c).After-leave_pair-left) (left_ruled _ c.requires.0.holds.gates c.args.pair.i c.args.pair.j (i_inside (goal.at.returns c).Start) c.requires.2 (chosen _ _));
+      gates_after = rw (early.2, late.2, left_is (goal.at.returns c).After-leave_pair-left) (left_ruled _ c.requires.0.holds.gates c.args.pair.i c.args.pair.j (i_inside (goal.at.returns c).Start) c.requires.2 (chosen _ _));
     }

@@ -47,10 +47,10 @@ pub apply_rule-from-requires : goal.apply_rule-from-requires
 apply_rule-from-requires c = let f = c.find_pair-pair.ensures in (f.0, c.if-m-pair.false, f.1)
 
 pub overflow_add-steps : goal.overflow_add-steps
-overflow_add-steps c = omega (arith, (stepping_next _ _ _ _ _ _ _ _ c.loop-pair.invariant.going _ _ _ _ _ c.find_pair-pair.ensures.0 c.find_pair-pair.ensures.1 c.if-m-pair.false _ _ _ _ _ c.apply_rule-from.ensures.remembers c.apply_rule-from.ensures.m_after).spent, most_size (goal.at.overflow_add-steps c).Start)
+overflow_add-steps c = omega (arith, (stepping_next _ _ _ _ _ _ _ _ c.loop-pair.invariant.going _ _ _ _ _ c.find_pair-pair.ensures.0 c.find_pair-pair.ensures.1 c.if-m-pair.false _ _ _ _ _ c.apply_rule-from.ensures.remembers c.apply_rule-from.ensures.gates_after).spent, most_size (goal.at.overflow_add-steps c).Start)
 
 pub loop-pair-smaller : goal.loop-pair-smaller
-loop-pair-smaller c = omega (arith, (stepping_next _ _ _ _ _ _ _ _ c.loop-pair.invariant.going _ _ _ _ _ c.find_pair-pair.ensures.0 c.find_pair-pair.ensures.1 c.if-m-pair.false _ _ _ _ _ c.apply_rule-from.ensures.remembers c.apply_rule-from.ensures.m_after).spent)
+loop-pair-smaller c = omega (arith, (stepping_next _ _ _ _ _ _ _ _ c.loop-pair.invariant.going _ _ _ _ _ c.find_pair-pair.ensures.0 c.find_pair-pair.ensures.1 c.if-m-pair.false _ _ _ _ _ c.apply_rule-from.ensures.remembers c.apply_rule-from.ensures.gates_after).spent)
 
 pub loop-pair-preserved : goal.loop-pair-preserved
 loop-pair-preserved c =
@@ -58,7 +58,7 @@ loop-pair-preserved c =
     let f = c.find_pair-pair.ensures in
     let a = c.apply_rule-from.ensures in
     record {
-      going = stepping_next _ _ _ _ _ _ _ _ w.going _ _ _ _ _ f.0 f.1 c.if-m-pair.false _ _ _ _ _ a.remembers a.m_after;
+      going = stepping_next _ _ _ _ _ _ _ _ w.going _ _ _ _ _ f.0 f.1 c.if-m-pair.false _ _ _ _ _ a.remembers a.gates_after;
       len = c.apply_rule-from.auto.b ∙ w.len;
       far_len = c.apply_rule-from.auto.far ∙ c.find_pair-pair.auto.far ∙ w.far_len;
       reach_len = c.apply_rule-from.auto.reach ∙ c.find_pair-pair.auto.reach ∙ w.reach_len;
