@@ -70,7 +70,7 @@ pub fn part(reader: Serial, bytes: &[u8]) -> Reply
 
 // The reader told that the text has ended, and its table where it is accepted: refusals 1, 14, 2, 3, 4 and 5, or what stands.
 pub fn end(reader: Serial, table: &mut [u16]) -> Reply
-    ensures value { result ≡ reply (ended reader (length table.old)) }
+    ensures answer { result ≡ reply (ended reader (length table.old)) }
     ensures table_after { table.new ≡ ended_table reader table.old }
 {
     let entries = reader.entries;
