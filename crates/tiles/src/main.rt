@@ -4,5 +4,5 @@
 use std::io;
 
 fn main(rt: HostRuntime) -> io::Result<()> {
-    streams::print_sheet(&rt, &mut rt.stdin())
+    streams::print_sheet(&mut rt.stdin(), &mut rt.stdout())
 }
