@@ -1,5 +1,5 @@
 -- What was read up to so many bytes is that much of what the input had. Assumes nothing.
-use Rattle.std.proofs.Common.{◌≡◌, ℕ, ◌≤◌, ◌<◌, List, [], ◌++◌, None, Some, IfSome, OnOk, Result, Ok, Err, arith, length, take, sym, ap, ◌∙◌, subst, inl, inr, length-take-le, take_all, append-nil}
+use Rattle.std.proofs.Common.{◌≡◌, ℕ, ◌≤◌, ◌<◌, List, ◌++◌, None, Some, IfSome, OnOk, Result, Ok, Err, arith, length, take, sym, ap, ◌∙◌, subst, inl, inr, length-take-le, take_all, append-nil}
 use lib.Seq.{take-append-le}
 use native.Mathlib.Nat.{eq-or-lt_of_le}
 use Rattle.std.specs.declared.option.Option.{Option}
