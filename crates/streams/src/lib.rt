@@ -25,9 +25,10 @@ pub fn read_full<R: Read>(input: &mut R, bytes: &mut [u8]) -> io::Result<usize>
     Ok(done)
 }
 
-// The longest table file has 1,459 bytes. One byte more is read, so that a longer input is not taken for a shorter one.
+// The text of a table file, whatever its length. The longest table file has 1,459 bytes. One byte more is read, so that a longer input is not taken for a
+// shorter one.
 pub fn print_sheet<R: Read, W: Write>(input: &mut R, output: &mut W) -> io::Result<()>
-    ensures { OnOk result (IfSome (R.remaining input.old) (λ bytes. Appends (W.contents output.old) (W.contents output.new) (sheet_text (take 1460 bytes)))) }
+    ensures { OnOk result (IfSome (R.remaining input.old) (λ bytes. Appends (W.contents output.old) (W.contents output.new) (sheet_text bytes))) }
 {
     let mut file = [0u8; 1460];
     let n = read_full(input, &mut file)?;
