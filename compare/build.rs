@@ -1,4 +1,4 @@
-//! Links the proved library: the archive that `rt staticlib exports` leaves in
+//! Links the proved library: the archive that `tools/archive` leaves in
 //! target/staticlib, or the one in the folder that TILES_LIBRARY names. Without one
 //! `cargo check` goes on, and nothing can be linked.
 
@@ -13,7 +13,7 @@ fn main() {
     let archive = folder.join("libexports.a");
     println!("cargo:rerun-if-changed={}", archive.display());
     if !archive.is_file() {
-        println!("cargo:warning=no {}: run rt staticlib exports first", archive.display());
+        println!("cargo:warning=no {}: run tools/archive first", archive.display());
     }
     println!("cargo:rustc-link-search=native={}", folder.display());
     println!("cargo:rustc-link-lib=static=exports");

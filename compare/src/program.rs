@@ -5,13 +5,13 @@ use std::path::{Path, PathBuf};
 use std::process::{Command, Stdio};
 use std::{env, thread};
 
-/// The built program: target/bin/tiles, which is for x86-64, or the one that
+/// The built program: crates/tiles/out/tiles, which is for x86-64, or the one that
 /// TILES_PROGRAM names. None on another machine if none is named.
 pub fn find() -> Option<PathBuf> {
     match env::var_os("TILES_PROGRAM") {
         Some(named) => Some(PathBuf::from(named)),
         None if cfg!(target_arch = "x86_64") => {
-            Some(Path::new(env!("CARGO_MANIFEST_DIR")).join("../target/bin/tiles"))
+            Some(Path::new(env!("CARGO_MANIFEST_DIR")).join("../crates/tiles/out/tiles"))
         }
         None => None,
     }

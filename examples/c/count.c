@@ -3,7 +3,7 @@
  * 728 back to 0. Makes its table, the cascade, tidies and prices it, runs it,
  * and walks it backwards. Ends with status 0 if every answer is as it must be.
  *
- *   rt staticlib exports
+ *   tools/archive
  *   cc -Iinclude examples/c/count.c target/staticlib/libexports.a -o count && ./count
  */
 #include <stdio.h>

@@ -1,5 +1,5 @@
 // serial: a text is fed to a reader in parts and its end is told, and then both once more, which must change nothing. The reader goes by value,
-// through the calls of `serials`: to lend a struct takes a proof by hand, which the functions for C callers have.
+// through the calls of `serials`; the functions for C callers are lent it.
 ghost use Rattle.std.specs.Prelude.{◌≤◌};
 
 use crate::heads;
