@@ -1,9 +1,11 @@
--- What was read up to so many bytes is that much of what the input had. Assumes nothing.
+-- What was read up to so many bytes is that much of what the input had; and a sheet's text, whose first 1,460 bytes say it all (`cut_alike`). Assumes nothing.
 use Rattle.std.proofs.Common.{◌≡◌, ℕ, ◌≤◌, ◌<◌, List, ◌++◌, None, Some, IfSome, OnOk, Result, Ok, Err, arith, length, take, sym, ap, ◌∙◌, subst, inl, inr, length-take-le, take_all, append-nil}
 use lib.Seq.{take-append-le}
 use native.Mathlib.Nat.{eq-or-lt_of_le}
 use Rattle.std.specs.declared.option.Option.{Option}
 use Rattle.std.specs.Io.KnownBytes.{Appends, Consumes, IsAtEnd}
+use Rattle.sheets.specs.Sheets.{sheet_text}
+use Rattle.sheets.proofs.Bounds.{cut_alike}
 
 -- n of k bytes were read, and fewer than k only where the input ended
 pub first_read : (a b : Option (List ℕ)) (file : List ℕ) (n k : ℕ) → n ≤ k → k ≡ length file → Consumes a b (take n file) → (n < k → IsAtEnd b)
@@ -27,3 +29,9 @@ made_of_first (Err e) make a b old new file made n k most size read end is writt
 made_of_first (Ok x) make None b old new file made n k most size read end is written = tt
 made_of_first (Ok x) make (Some xs) b old new file made n k most size read end is written =
     subst (Appends old new) (is ∙ ap make (first_read (Some xs) b file n k most size read end)) written
+
+pub whole_text : {E : Type 0} (r : Result (Unit {0}) E) (known old new : Option (List ℕ))
+    → OnOk r (IfSome known (λ bytes. Appends old new (sheet_text (take 1460 bytes)))) → OnOk r (IfSome known (λ bytes. Appends old new (sheet_text bytes)))
+whole_text (Err e) known old new p = tt
+whole_text (Ok x) None old new p = tt
+whole_text (Ok x) (Some bytes) old new p = subst (Appends old new) (cut_alike bytes) p

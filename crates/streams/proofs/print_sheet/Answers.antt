@@ -1,8 +1,7 @@
 -- `streams::print_sheet` meets its contract: the text is that of the bytes read. Assumes nothing.
 use Rattle.std.proofs.Common.{rules}
 use Rattle.sheets.specs.Sheets.{sheet_text}
-use Rattle.streams.proofs.FirstBytes.{made_of_first}
-use Rattle.streams.proofs.LongFiles.{whole_text}
+use Rattle.streams.proofs.FirstBytes.{made_of_first, whole_text}
 use Rattle.streams.proofs.print_sheet.Goals as goal
 
 pub returns : goal.returns
