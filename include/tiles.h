@@ -2,7 +2,7 @@
  * tiles.h: reversible ternary logic, from tables to cascades of gates.
  *
  * The functions are those of target/staticlib/libexports.a (x86-64), which
- * `rt staticlib exports` builds from the proved library. Link that archive.
+ * `tools/archive` builds from the proved library. Link that archive.
  *
  * Words
  *   lines    1 to 6 lines, x0 to x(n-1), each holding 0, 1 or 2.
