@@ -114,6 +114,7 @@ pub fn print_all_tables(rt: &impl Print) -> io::Result<()> {
 }
 
 // Rooms of 32,080 bytes take the 4,010 records that synthesis asks for at six lines.
+#[tactic(auto, using(digits::proofs::Sizes::patterns_most))]
 pub fn print_drawn_tables(rt: &impl Print, lines: u8, seed: u32, count: u32) -> io::Result<()>
     requires { lines ≤ 6 }
 {

@@ -1,25 +1,12 @@
 -- `digests::adding::add_table` is safe: the records that are told lie within the room. Assumes nothing.
-use mathlib.Core.Path.{sym, ap, ◌∙◌}
-use mathlib.Core.List.{List}
-use Prim.Native.Nat.{ℕ, ◌*◌, ◌≤◌}
-use lib.ListN.{length}
-use lib.Seq.{length-take-le}
-use native.Mathlib.Omega.{arith}
-use Rattle.cascades.specs.Answers.{counted_as}
+use Rattle.std.proofs.Common.{◌*◌, ◌≤◌, length, sym, arith, length-take-le}
 use Rattle.digests.proofs.Fits.{synthesized_fits}
-use Rattle.digests.proofs.adding.add_table.Goals as goal
 use Rattle.digests.proofs.adding.add_table.Goals.{In-Gates}
+use Rattle.digests.proofs.adding.add_table.Goals as goal
 
-module _ (c : In-Gates) where
-  -- the number that the call has told, and what it has left in the room
-  abbrev told : ℕ
-  told = c.in-Gates.m
-
-  abbrev left_there : List ℕ
-  left_there = c.synthesize.new.room
-
-  within : 8 * told ≤ length left_there
-  within = rw c.synthesize.auto.room (synthesized_fits _ _ _ _ (ap counted_as (sym c.in-Gates.is) ∙ c.synthesize.ensures.answer))
+module _ (c : goal.In-Gates) where
+  within : 8 * c.in-Gates.m ≤ length c.synthesize.new.room
+  within = omega (arith, synthesized_fits _ _ _ _ c.in-Gates.ensures.answer, c.synthesize.auto.room)
 
 pub overflow_mul-m : goal.overflow_mul-m
 overflow_mul-m c = omega (arith, within c)

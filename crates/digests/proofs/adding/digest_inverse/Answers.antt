@@ -1,25 +1,11 @@
 -- `digests::adding::digest_inverse` is safe: the records that are told lie within the room. Assumes nothing.
-use mathlib.Core.Path.{sym, ap, ◌∙◌}
-use mathlib.Core.List.{List}
-use Prim.Native.Nat.{ℕ, ◌*◌, ◌≤◌}
-use lib.ListN.{length}
-use lib.Seq.{length-take-le}
-use native.Mathlib.Omega.{arith}
-use Rattle.cascades.specs.Answers.{counted_as}
+use Rattle.std.proofs.Common.{◌*◌, ◌≤◌, length, sym, arith, length-take-le}
 use Rattle.digests.proofs.Fits.{inverse_fits}
 use Rattle.digests.proofs.adding.digest_inverse.Goals as goal
-use Rattle.digests.proofs.adding.digest_inverse.Goals.{In-Gates}
 
-module _ (c : In-Gates) where
-  -- the number that the call has told, and what it has left in the inverse
-  abbrev told : ℕ
-  told = c.in-Gates.m
-
-  abbrev left_there : List ℕ
-  left_there = c.invert.new.room
-
-  within : 8 * told ≤ length left_there
-  within = rw c.invert.auto.room (inverse_fits _ _ _ _ (ap counted_as (sym c.in-Gates.is) ∙ c.invert.ensures.answer))
+module _ (c : goal.In-Gates) where
+  within : 8 * c.in-Gates.m ≤ length c.invert.new.room
+  within = omega (arith, inverse_fits _ _ _ _ c.in-Gates.ensures.answer, c.invert.auto.room)
 
 pub overflow_mul-m : goal.overflow_mul-m
 overflow_mul-m c = omega (arith, within c)
