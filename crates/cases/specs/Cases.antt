@@ -201,7 +201,7 @@ rooms =
     synthesizes 2 table_003 (13 * 8) (refused 5 14) (old_bytes 0 (13 * 8))
     ++ synthesizes 2 table_003 (14 * 8 - 1) (refused 5 14) (old_bytes 0 (14 * 8 - 1))
 
--- empty and one_gate cascades tidy to themselves, 0 steps
+-- empty and one-gate cascades tidy to themselves, 0 steps
 abbrev short_cascades : List Case
 short_cascades = tidies 2 [] (accepted (0 ∷ 0 ∷ [])) [] ++ tidies 2 (x0 C1 2) (accepted (1 ∷ 0 ∷ [])) (x0 C1 2)
 

@@ -1,4 +1,4 @@
-// The calls, each by the function that C callers get, and what is shown of them.
+// The calls, each by the function of `exports` that its C function calls, and what is shown of them.
 use crate::heads::StoredCase;
 use crate::lines::print_case;
 use crate::serial::show_serial;
