@@ -1,11 +1,20 @@
 // What the programs that go through stored files share.
 #![tactic(auto)]
 
+use std::env::Env;
 use std::rt::Files;
-use std::{fs, io};
+use std::{env, fs, io};
 
-// Prints the name that an argument is, and opens the file of that name.
-pub fn open_argument<R: Files + Print>(rt: &R, name: &str) -> io::Result<R::File> {
-    println!(rt; "{name}")?;
-    fs::open(rt, name)
+// Prints the name of each file that an argument names, and has the file shown.
+pub fn show_each<R, F>(rt: &R, mut show: F) -> io::Result<()>
+where
+    R: Alloc + Env + Files + Print,
+    F: FnMut(&mut R::File) -> io::Result<()>,
+    requires { F.IsAlwaysCallable show }
+{
+    for name in env::args(rt)?.skip(1) {
+        println!(rt; "{name}")?;
+        show(&mut fs::open(rt, &name)?)?;
+    }
+    Ok(())
 }

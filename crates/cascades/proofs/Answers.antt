@@ -49,6 +49,12 @@ module _ (good : ℕ → List ℕ → ℕ → Bool) (n : ℕ) (b : List ℕ) whe
   pub passing_next : (m i : ℕ) → i < m → good n b (8 * i) ≡ true → Passing good n b m i → Passing good n b m (i + 1)
   passing_next m i lt e s = record { within = omega arith; none = first_more (bad_record good n b) m i lt (bad_not i e) ∙ s.none }
 
+  pub passing_bad : (m i : ℕ) → i < m → good n b (8 * i) ≡ false → Passing good n b m i → i ≡ first (bad_record good n b) 0 m
+  passing_bad m i lt e s = sym (first_hit (bad_record good n b) m i lt (bad_is i e)) ∙ s.none
+
+  pub passing_all : (m i : ℕ) → m ≤ i → Passing good n b m i → m ≤ first (bad_record good n b) 0 m
+  passing_all m i le s = omega (arith, le, sym s.none ∙ first_ends (bad_record good n b) m i le)
+
   -- ---- 1, 6 and 7, and else x
 
   module _ (x : Answer) where

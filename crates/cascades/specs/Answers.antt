@@ -1,21 +1,9 @@
 -- What the calls on a cascade answer, with the refusals in the card's order, and what they leave in a lent room.
 use Rattle.std.specs.Prelude.{ℕ, ◌*◌, ◌/◌, ◌%◌, ◌^◌, Bool, not, ◌&&◌, List, [], ◌∷◌, eqb, leb, ltb, length}
 use Rattle.ranges.specs.Ranges.{first}
-use Rattle.card.specs.Card.{Answer, Answer.accepted, Answer.refused, refusing, on_lines, after, laid}
+use Rattle.card.specs.Card.{Answer, Answer.accepted, refusing, on_lines, after, laid}
 use Rattle.gates.specs.Records.{is_record}
 use Rattle.cascades.specs.Cascades.{records, gates_of, bytes_of, ran, undoing}
-use Rattle.cascades.specs.declared.Counted.{Counted}
-use Rattle.cascades.specs.declared.Ran.{Ran}
-
--- ---- the document's number and values for each case of an answer
-
-abbrev pub counted_as : Counted → Answer
-counted_as (Counted.Gates m) = accepted (m ∷ [])
-counted_as (Counted.Refused k p) = refused k p
-
-abbrev pub ran_as : Ran → Answer
-ran_as (Ran.Pattern p) = accepted (p ∷ [])
-ran_as (Ran.Refused k p) = refused k p
 
 -- ---- refusals 6 and 7 of a given cascade
 

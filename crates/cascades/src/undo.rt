@@ -15,15 +15,14 @@ fn copy_inverse(lines: u8, cascade: &[u8], from: usize, room: &mut [u8], to: usi
     gates::words::store(w, room, to);
 }
 
-// The inverses of the m gates, the last first, from the start of the room on.
+// The inverses of the m gates, the last first, from the start of the room on. What checking has found stays a clause, `Whole`, here and in the functions
+// that go on: `tabulating::whole::write_table`, which the papers name, takes any bytes that meet it, and a type would ask for the check itself.
 pub fn write_undoing(lines: u8, cascade: &[u8], m: usize, room: &mut [u8])
     requires whole { Whole lines cascade.now m }
     requires m_in_bounds { m ≤ length room.old / 8 }
     ensures { room.new ≡ sets room.old 0 (bytes_of (undoing (gates_of cascade.now))) }
 {
-    let mut i: usize = 0;
-    while i < m {
+    for i in 0..m {
         copy_inverse(lines, cascade, 8 * (m - (i + 1)), room, 8 * i);
-        i = i + 1;
     }
 }

@@ -1,16 +1,13 @@
 -- The choice between two cascades: two tables differ first where the cascades do, and 11 is given exactly where the tables are not the same; what the
 -- prices of the two say of the whole answer; and what is handed back. It rests on the laws of 1, 6 and 7 of `cascades`. Assumes nothing.
-use mathlib.Core.Path.{◌≡◌, refl, sym, ap, ◌∙◌}
-use mathlib.Core.Bool.{Bool, cond, not}
-use mathlib.Core.List.{List, [], ◌∷◌}
-use Prim.Native.Nat.{ℕ, ◌^◌, ◌≤◌, ◌<◌}
-use native.Mathlib.Nat.{zero-add}
-use native.Mathlib.Omega.{arith}
-use lib.Dec.{eqb, ltb}
-use lib.ListN.{length, get_or}
-use denote.Ref.{Bor}
-use borrow.Author.Tests.{lt-ltb, le-ltb, eqb-true, eqb-false, not-true, not-false}
+use Rattle.std.proofs.Common.{◌≡◌, refl, sym, ap, ◌∙◌, Bool, cond, not, List, [], ◌∷◌, ℕ, ◌^◌, ◌≤◌, ◌<◌, eqb, ltb, length, get_or, Bor, lt-ltb, le-ltb, eqb-true, arith}
+use Rattle.std.specs.List.{position, zip}
+use Rattle.std.proofs.Math.Nat.{zero-add}
+use Rattle.std.proofs.lemmas.Bool.{eqb-false, not-true, not-false}
+use Rattle.std.proofs.lemmas.Slice.Zip.{length-zip, get_or-zip}
+use Rattle.ranges.specs.Inner.Places.{found_at}
 use Rattle.ranges.proofs.Searches.{Found, found, first_ext}
+use Rattle.ranges.proofs.Places.{position_first}
 use Rattle.ranges.proofs.Spans.{length_span, span_at, span_ext}
 use Rattle.card.specs.Card.{Answer, Answer.accepted, Answer.refused}
 use Rattle.card.proofs.Cards.{good_lines, refusing_yes, refusing_no}
@@ -24,7 +21,6 @@ use Rattle.boards.proofs.Boards.{board_passed}
 use Rattle.pricing.specs.Prices.{price_answer}
 use Rattle.pricing.proofs.PriceAnswers.{price_accepted, price_refused}
 use Rattle.choice.specs.Choice.{first_difference, second_wins, choose_answer, Handed}
-use Rattle.choice.specs.Inner.Comparing.{first_unlike}
 
 -- ---- the first difference
 
@@ -33,15 +29,20 @@ unfolding table_for
 table_entry n gs p lt = rw (zero-add p) at (span_at (ran gs) 0 (3 ^ n) p 0 lt)
 
 -- two tables differ first where the gates do
-pub first_unlike_lem : (n : ℕ) (gs hs : List Gate) → first_unlike (table_of n gs) (table_of n hs) ≡ first_difference n gs hs
-unfolding first_unlike first_difference
+pub first_unlike_lem : (n : ℕ) (gs hs : List Gate) → position (λ (z : ℕ × ℕ). not (eqb z.0 z.1)) (zip (table_of n gs) (table_of n hs)) ≡ found_at (3 ^ n) (first_difference n gs hs)
+unfolding first_difference
 first_unlike_lem n gs hs =
-    rw (long)
-    (first_ext (λ p. not (eqb (get_or (table_of n gs) p 0) (get_or (table_of n hs) p 0))) (λ p. not (eqb (ran gs p) (ran hs p))) 0 (3 ^ n)
-    (λ p le lt. rw (table_entry n gs p (omega arith), table_entry n hs p (omega arith))))
+    position_first (λ (z : ℕ × ℕ). not (eqb z.0 z.1)) (0, 0) (zip (table_of n gs) (table_of n hs))
+    ∙ rw pairs
+    (ap (found_at (3 ^ n))
+    (first_ext (λ p. let z = get_or (zip (table_of n gs) (table_of n hs)) p (0, 0) in not (eqb z.0 z.1)) (λ p. not (eqb (ran gs p) (ran hs p))) 0 (3 ^ n)
+    (λ p le lt. rw (get_or-zip (table_of n gs) (table_of n hs) p (0, 0) (omega (arith, long gs)) (omega (arith, long hs)), table_entry n gs p (omega arith), table_entry n hs p (omega arith)))))
   where
-    long : length (table_of n gs) ≡ 3 ^ n
-    long = unfold table_for in length_span (ran gs) 0 (3 ^ n)
+    long : (gs : List Gate) → length (table_of n gs) ≡ 3 ^ n
+    long gs = unfold table_for in length_span (ran gs) 0 (3 ^ n)
+
+    pairs : length (zip (table_of n gs) (table_of n hs)) ≡ 3 ^ n
+    pairs = length-zip (table_of n gs) (table_of n hs) ∙ rw (long gs, long hs) (omega arith)
 
 -- and there is such an input exactly where the tables are not the same
 module _ (n : ℕ) (gs hs : List Gate) where

@@ -1,8 +1,10 @@
 -- The cheaper of two cascades: which it is, and what is handed back.
-use Rattle.std.specs.Prelude.{ℕ, ◌^◌, ◌≡◌, Bool, cond, not, ◌&&◌, ◌||◌, List, [], ◌∷◌, eqb, ltb, length}
+use Rattle.std.specs.Prelude.{ℕ, ◌^◌, ◌≡◌, Bool, cond, not, ◌&&◌, ◌||◌, List, [], ◌∷◌, eqb, ltb, length, Result}
 use Rattle.std.specs.Borrow.{Bor}
 use Rattle.ranges.specs.Ranges.{first}
 use Rattle.card.specs.Card.{Answer, Answer.accepted, Answer.refused, refusing}
+use Rattle.card.specs.declared.Refusal.{Refusal}
+use Rattle.card.specs.Answers.{answer_as}
 use Rattle.gates.specs.declared.Gate.{Gate}
 use Rattle.cascades.specs.Cascades.{gates_of, ran}
 use Rattle.cascades.specs.Answers.{on_cascade}
@@ -10,11 +12,13 @@ use Rattle.boards.specs.Boards.{on_board}
 use Rattle.pricing.specs.Prices.{cascade_price}
 use Rattle.choice.specs.declared.Choice.{Choice}
 
--- the document's number and values for each case: 1 the first, 2 the second
-abbrev pub choice_as : Choice → Answer
-choice_as Choice.First = accepted (1 ∷ [])
-choice_as Choice.Second = accepted (2 ∷ [])
-choice_as (Choice.Refused k p) = refused k p
+-- the document's values: 1 the first, 2 the second
+abbrev pub choice_values : Choice → List ℕ
+choice_values Choice.First = 1 ∷ []
+choice_values Choice.Second = 2 ∷ []
+
+abbrev pub choice_as : Result Choice Refusal → Answer
+choice_as r = answer_as choice_values r
 
 -- the first input of n lines on which two lists of gates differ, or 3 ^ n
 unfoldable pub first_difference : ℕ → List Gate → List Gate → ℕ

@@ -6,40 +6,35 @@ ghost use Rattle.choice.specs.Choice.{choice_as, choose_answer, Handed};
 
 mod compare;
 
-use pricing::Priced;
+use card::Refusal;
 
 // Which of the two it is.
-#[derive(Clone, Copy)]
+#[derive(Clone, Copy, Debug, PartialEq, Eq)]
 pub enum Choice {
     First,
     Second,
-    Refused { number: u8, place: usize },
 }
 
 // The one that costs less on a board with a global control value and a fitted set, then the one with fewer gates, then the first: refusals 1, 10, 13, 6
 // and 7 of the first, 6 and 7 of the second, 11.
-pub fn choose(lines: u8, value: u8, fitted: u8, first: &[u8], second: &[u8]) -> Choice
+pub fn choose(
+    lines: u8,
+    value: u8,
+    fitted: u8,
+    first: &[u8],
+    second: &[u8],
+) -> Result<Choice, Refusal>
     ensures { choice_as result ≡ choose_answer lines value fitted first.now second.now }
 {
-    match pricing::price(lines, value, fitted, first) {
-        Priced::Refused { number, place } => Choice::Refused { number, place },
-        Priced::Cost(one) => match pricing::price(lines, value, fitted, second) {
-            Priced::Refused { number, place } => Choice::Refused { number, place },
-            Priced::Cost(two) => {
-                let input = compare::first_difference(lines, first, second);
-                if input < digits::power(lines as usize) as usize {
-                    return Choice::Refused {
-                        number: 11,
-                        place: input,
-                    };
-                }
-                if compare::second_wins(one, two, first.len() / 8, second.len() / 8) {
-                    Choice::Second
-                } else {
-                    Choice::First
-                }
-            }
-        },
+    let one = pricing::price(lines, value, fitted, first)?;
+    let two = pricing::price(lines, value, fitted, second)?;
+    if let Some(input) = compare::first_difference(lines, first, second) {
+        return Err(Refusal::OtherTable(input));
+    }
+    if compare::second_wins(one, two, first.len() / 8, second.len() / 8) {
+        Ok(Choice::Second)
+    } else {
+        Ok(Choice::First)
     }
 }
 
@@ -48,11 +43,8 @@ pub fn cheaper<'a>(lines: u8, value: u8, fitted: u8, first: &'a [u8], second: &'
     ensures { Handed (choose_answer lines value fitted first.now second.now) first.entry second.entry result }
 {
     match choose(lines, value, fitted, first, second) {
-        Choice::First => first,
-        Choice::Second => second,
-        Choice::Refused {
-            number: _,
-            place: _,
-        } => &first[..0],
+        Ok(Choice::First) => first,
+        Ok(Choice::Second) => second,
+        Err(_) => &first[..0],
     }
 }

@@ -1,217 +1,144 @@
--- Each promise has one answer. For each enum: two values that stand for the same answer of the document are equal, so an equation `..As r ≡ answer` has one
--- solution. For the two calls that hand a reference back: two results that meet the promise have the same pointer and content, and for `open` the same
--- numbers. What is not determined is the ghost name of the borrow of an empty part. Assumes nothing.
-use Prim.Native.Nat.{ℕ, zero, suc}
-use mathlib.Core.Path.{◌≡◌, refl, sym, ap, ◌∙◌}
-use mathlib.Core.Bool.{Bool, true, false, cond}
-use mathlib.Core.List.{List, [], ◌∷◌}
-use lib.ListN.{get_or}
+-- Each promise has one answer. Two results that stand for the same answer of the document are equal, so an equation `.._as r ≡ answer` has one solution:
+-- once for all calls, over the values of what is accepted, and then for each kind of values. For the two calls that hand a reference back: two results
+-- that meet the promise have the same pointer and content, and for `open` the same numbers. What is not determined is the ghost name of the borrow of an
+-- empty part. Assumes nothing.
+use Rattle.std.specs.Prelude.{◌≡◌, ℕ, zero, suc, Bool, true, false, cond, List, [], ◌∷◌, get_or, Result, Ok, Err, Option, Some, None}
+use Rattle.std.proofs.Common.{refl, sym, ap, ◌∙◌}
 use denote.Ref.{Bor}
-use Rattle.card.specs.Card.{Answer, Answer.accepted, Answer.refused, on_lines}
+use Rattle.card.specs.declared.Refusal.{Refusal}
+use Rattle.card.specs.Card.{Answer, Answer.accepted, Answer.refused, number, place, values, on_lines}
+use Rattle.card.specs.Answers.{number_of, place_of, answer_as, done_as, number_as}
+use Rattle.gates.specs.declared.Gate.{Gate}
 use Rattle.cascades.specs.Cascades.{gates_of}
-use Rattle.cascades.specs.Answers.{on_records, counted_as, ran_as}
-use Rattle.tables.specs.declared.Checked.{Checked}
-use Rattle.cascades.specs.declared.Counted.{Counted}
-use Rattle.cascades.specs.declared.Ran.{Ran}
+use Rattle.cascades.specs.Answers.{on_records}
 use Rattle.boards.specs.Boards.{on_board}
-use Rattle.pricing.specs.Prices.{priced_as}
-use Rattle.pricing.specs.declared.Priced.{Priced}
-use Rattle.tabulating.specs.declared.Tabulated.{Tabulated}
 use Rattle.tidying.specs.declared.Tidied.{Tidied}
-use Rattle.listings.specs.declared.Listed.{Listed}
-use Rattle.serials.specs.declared.Told.{Told}
-use Rattle.files.specs.declared.Written.{Written}
+use Rattle.tidying.specs.TidyAnswers.{tidied_values, tidied_as}
+use Rattle.serials.specs.declared.Stopped.{Stopped}
+use Rattle.serials.specs.Serials.{told_as}
 use Rattle.files.specs.declared.ReadBack.{ReadBack}
 use Rattle.files.specs.declared.Extent.{Extent}
-use Rattle.tables.specs.Tables.{checked_as}
-use Rattle.tabulating.specs.Tabulating.{tabulated_as}
-use Rattle.tidying.specs.TidyAnswers.{tidied_as}
-use Rattle.listings.specs.Listings.{listed_as}
-use Rattle.serials.specs.Serials.{told_as}
-use Rattle.files.specs.Files.{written_as, read_as, opening_as, opening_answer}
+use Rattle.files.specs.Files.{read_values, read_as, extent_values, opening_as, opening_answer}
 use Rattle.choice.specs.declared.Choice.{Choice}
-use Rattle.choice.specs.Choice.{choice_as, second_wins, choose_answer, Handed}
-use Rattle.readers.specs.declared.Given.{Given}
+use Rattle.choice.specs.Choice.{choice_values, choice_as, second_wins, choose_answer, Handed}
 use Rattle.readers.specs.declared.Reader.{Reader}
-use Rattle.readers.specs.Readers.{given_as, Opened}
+use Rattle.readers.specs.Readers.{Given, given_values, given_as, Opened}
 use Rattle.demands.specs.CardRows.{decided}
 use Rattle.demands.specs.Refusals.{choice_rows}
 use Rattle.demands.proofs.Decided.{accepted_values}
 
 -- what has a way back has one source
-once : {A : Type 0} (to : A → Answer) (back : Answer → A) → ((x : A) → back (to x) ≡ x) → (x y : A) → to x ≡ to y → x ≡ y
+once : {A B : Type 0} (to : A → B) (back : B → A) → ((x : A) → back (to x) ≡ x) → (x y : A) → to x ≡ to y → x ≡ y
 once to back same x y e = sym (same x) ∙ ap back e ∙ same y
 
--- value i of an accepted answer, and a refusal's number and place
+-- ---- a refusal has its number and place to itself
+
+-- the refusal with number k + 1 at p
+abbrev refusal : ℕ → ℕ → Refusal
+refusal k p =
+    get_or (Refusal.Lines ∷ Refusal.TableLength ∷ Refusal.LargeEntry p ∷ Refusal.RepeatedEntry p ∷ Refusal.Room p ∷ Refusal.CascadeLength ∷ Refusal.NoGate p
+    ∷ Refusal.LargePattern ∷ Refusal.Frame ∷ Refusal.Value ∷ Refusal.OtherTable p ∷ Refusal.NoGateLine p ∷ Refusal.FittedSet ∷ Refusal.Text p ∷ []) k Refusal.Lines
+
+abbrev before : ℕ → ℕ
+before zero = zero
+before (suc k) = k
+
+abbrev refusal_in : Answer → Refusal
+refusal_in a = refusal (before (number a)) (place a)
+
+refusal_back : (e : Refusal) → refusal_in (refused (number_of e) (place_of e)) ≡ e
+refusal_back Refusal.Lines = refl
+refusal_back Refusal.TableLength = refl
+refusal_back (Refusal.LargeEntry p) = refl
+refusal_back (Refusal.RepeatedEntry p) = refl
+refusal_back (Refusal.Room p) = refl
+refusal_back Refusal.CascadeLength = refl
+refusal_back (Refusal.NoGate p) = refl
+refusal_back Refusal.LargePattern = refl
+refusal_back Refusal.Frame = refl
+refusal_back Refusal.Value = refl
+refusal_back (Refusal.OtherTable p) = refl
+refusal_back (Refusal.NoGateLine p) = refl
+refusal_back Refusal.FittedSet = refl
+refusal_back (Refusal.Text p) = refl
+
+pub refusal_once : (d e : Refusal) → number_of d ≡ number_of e → place_of d ≡ place_of e → d ≡ e
+refusal_once d e k p = sym (refusal_back d) ∙ (λ i. refusal_in (refused (k i) (p i))) ∙ refusal_back e
+
+-- ---- so has a result whose values have a way back
+
+module _ {A : Type 0} (to : A → List ℕ) (back : List ℕ → A) (same : (x : A) → back (to x) ≡ x) where
+  abbrev result_in : Answer → Result A Refusal
+  result_in (accepted vs) = Ok (back vs)
+  result_in (refused k p) = Err (refusal (before k) p)
+
+  result_back : (r : Result A Refusal) → result_in (answer_as to r) ≡ r
+  result_back (Ok x) = ap Ok (same x)
+  result_back (Err e) = ap Err (refusal_back e)
+
+  pub answer_once : (x y : Result A Refusal) → answer_as to x ≡ answer_as to y → x ≡ y
+  answer_once = once (answer_as to) result_in result_back
+
+-- value i of an accepted answer
 abbrev value : List ℕ → ℕ → ℕ
 value vs i = get_or vs i 0
 
--- `tables`
-abbrev checked_of : Answer → Checked
-checked_of (accepted vs) = Checked.Accepted
-checked_of (refused k p) = Checked.Refused k p
+-- `check_table`
+pub done_once : (x y : Result Unit Refusal) → done_as x ≡ done_as y → x ≡ y
+done_once = answer_once (λ _. []) (λ vs. tt) (λ x. refl)
 
-pub checked_once : (x y : Checked) → checked_as x ≡ checked_as y → x ≡ y
-checked_once = once checked_as checked_of same
-  where
-    same : (x : Checked) → checked_of (checked_as x) ≡ x
-    same Checked.Accepted = refl
-    same (Checked.Refused k p) = refl
+-- all calls that answer one number
+pub number_once : (x y : Result ℕ Refusal) → number_as x ≡ number_as y → x ≡ y
+number_once = answer_once (λ m. m ∷ []) (λ vs. value vs 0) (λ x. refl)
 
--- `cascades`
-abbrev counted_of : Answer → Counted
-counted_of (accepted vs) = Counted.Gates (value vs 0)
-counted_of (refused k p) = Counted.Refused k p
+-- `tidy`
+pub tidied_once : (x y : Result Tidied Refusal) → tidied_as x ≡ tidied_as y → x ≡ y
+tidied_once = answer_once tidied_values (λ vs. record { left = value vs 0; steps = value vs 1 }) (λ x. refl)
 
-pub counted_once : (x y : Counted) → counted_as x ≡ counted_as y → x ≡ y
-counted_once = once counted_as counted_of same
-  where
-    same : (x : Counted) → counted_of (counted_as x) ≡ x
-    same (Counted.Gates a) = refl
-    same (Counted.Refused k p) = refl
+-- `read_file`
+pub read_back_once : (x y : Result ReadBack Refusal) → read_as x ≡ read_as y → x ≡ y
+read_back_once = answer_once read_values (λ vs. record { lines = value vs 0; gates = value vs 1; note = value vs 2 }) (λ x. refl)
 
--- `cascades`
-abbrev ran_of : Answer → Ran
-ran_of (accepted vs) = Ran.Pattern (value vs 0)
-ran_of (refused k p) = Ran.Refused k p
+-- `opening`
+pub extent_once : (x y : Result Extent Refusal) → opening_as x ≡ opening_as y → x ≡ y
+extent_once = answer_once extent_values (λ vs. record { lines = value vs 0; at = value vs 1; end = value vs 2 }) (λ x. refl)
 
-pub ran_once : (x y : Ran) → ran_as x ≡ ran_as y → x ≡ y
-ran_once = once ran_as ran_of same
-  where
-    same : (x : Ran) → ran_of (ran_as x) ≡ x
-    same (Ran.Pattern a) = refl
-    same (Ran.Refused k p) = refl
-
--- `cascades`
-abbrev priced_of : Answer → Priced
-priced_of (accepted vs) = Priced.Cost (value vs 0)
-priced_of (refused k p) = Priced.Refused k p
-
-pub priced_once : (x y : Priced) → priced_as x ≡ priced_as y → x ≡ y
-priced_once = once priced_as priced_of same
-  where
-    same : (x : Priced) → priced_of (priced_as x) ≡ x
-    same (Priced.Cost a) = refl
-    same (Priced.Refused k p) = refl
-
--- `tabulating`
-abbrev tabulated_of : Answer → Tabulated
-tabulated_of (accepted vs) = Tabulated.Entries (value vs 0)
-tabulated_of (refused k p) = Tabulated.Refused k p
-
-pub tabulated_once : (x y : Tabulated) → tabulated_as x ≡ tabulated_as y → x ≡ y
-tabulated_once = once tabulated_as tabulated_of same
-  where
-    same : (x : Tabulated) → tabulated_of (tabulated_as x) ≡ x
-    same (Tabulated.Entries a) = refl
-    same (Tabulated.Refused k p) = refl
-
--- `tidying`
-abbrev tidied_of : Answer → Tidied
-tidied_of (accepted vs) = Tidied.Gates (value vs 0) (value vs 1)
-tidied_of (refused k p) = Tidied.Refused k p
-
-pub tidied_once : (x y : Tidied) → tidied_as x ≡ tidied_as y → x ≡ y
-tidied_once = once tidied_as tidied_of same
-  where
-    same : (x : Tidied) → tidied_of (tidied_as x) ≡ x
-    same (Tidied.Gates a b) = refl
-    same (Tidied.Refused k p) = refl
-
--- `listings`
-abbrev listed_of : Answer → Listed
-listed_of (accepted vs) = Listed.Bytes (value vs 0)
-listed_of (refused k p) = Listed.Refused k p
-
-pub listed_once : (x y : Listed) → listed_as x ≡ listed_as y → x ≡ y
-listed_once = once listed_as listed_of same
-  where
-    same : (x : Listed) → listed_of (listed_as x) ≡ x
-    same (Listed.Bytes a) = refl
-    same (Listed.Refused k p) = refl
-
--- `serials`
-abbrev told_back : Answer → Told
-told_back (accepted vs) = Told.Entries (value vs 0)
-told_back (refused k p) = Told.Refused k p
-
-pub told_once : (x y : Told) → told_as x ≡ told_as y → x ≡ y
-told_once = once told_as told_back same
-  where
-    same : (x : Told) → told_back (told_as x) ≡ x
-    same (Told.Entries a) = refl
-    same (Told.Refused k p) = refl
-
--- `files`
-abbrev written_of : Answer → Written
-written_of (accepted vs) = Written.Bytes (value vs 0)
-written_of (refused k p) = Written.Refused k p
-
-pub written_once : (x y : Written) → written_as x ≡ written_as y → x ≡ y
-written_once = once written_as written_of same
-  where
-    same : (x : Written) → written_of (written_as x) ≡ x
-    same (Written.Bytes a) = refl
-    same (Written.Refused k p) = refl
-
--- `files`
-abbrev read_back_of : Answer → ReadBack
-read_back_of (accepted vs) = ReadBack.Parts (value vs 0) (value vs 1) (value vs 2)
-read_back_of (refused k p) = ReadBack.Refused k p
-
-pub read_back_once : (x y : ReadBack) → read_as x ≡ read_as y → x ≡ y
-read_back_once = once read_as read_back_of same
-  where
-    same : (x : ReadBack) → read_back_of (read_as x) ≡ x
-    same (ReadBack.Parts a b c) = refl
-    same (ReadBack.Refused k p) = refl
-
--- `files`
-abbrev extent_of : Answer → Extent
-extent_of (accepted vs) = Extent.Frame (value vs 0) (value vs 1) (value vs 2)
-extent_of (refused k p) = Extent.Refused k p
-
-pub extent_once : (x y : Extent) → opening_as x ≡ opening_as y → x ≡ y
-extent_once = once opening_as extent_of same
-  where
-    same : (x : Extent) → extent_of (opening_as x) ≡ x
-    same (Extent.Frame a b c) = refl
-    same (Extent.Refused k p) = refl
-
--- `choice`: 1 the first, 2 the second
+-- `choose`: 1 the first, 2 the second
 abbrev chosen : ℕ → Choice
 chosen zero = Choice.First
 chosen (suc zero) = Choice.First
 chosen (suc (suc k)) = Choice.Second
 
-abbrev choice_of : Answer → Choice
-choice_of (accepted vs) = chosen (value vs 0)
-choice_of (refused k p) = Choice.Refused k p
+chosen_back : (x : Choice) → chosen (value (choice_values x) 0) ≡ x
+chosen_back Choice.First = refl
+chosen_back Choice.Second = refl
 
-pub choice_once : (x y : Choice) → choice_as x ≡ choice_as y → x ≡ y
-choice_once = once choice_as choice_of same
-  where
-    same : (x : Choice) → choice_of (choice_as x) ≡ x
-    same Choice.First = refl
-    same Choice.Second = refl
-    same (Choice.Refused k p) = refl
+pub choice_once : (x y : Result Choice Refusal) → choice_as x ≡ choice_as y → x ≡ y
+choice_once = answer_once choice_values (λ vs. chosen (value vs 0)) chosen_back
 
--- `readers`: 0 the end, 1 a gate
-abbrev handed_out : ℕ → List ℕ → Given
-handed_out zero vs = Given.End
-handed_out (suc k) vs = Given.Gate (value vs 1) (value vs 2) (value vs 3)
+-- `next`: 0 the end, 1 a gate
+abbrev handed_out : ℕ → List ℕ → Option Gate
+handed_out zero vs = None
+handed_out (suc k) vs = Some (record { operator = value vs 1; target = value vs 2; controls = value vs 3 })
 
-abbrev given_of : Answer → Given
-given_of (accepted vs) = handed_out (value vs 0) vs
-given_of (refused k p) = Given.Refused k p
+handed_back : (x : Option Gate) → handed_out (value (given_values x) 0) (given_values x) ≡ x
+handed_back None = refl
+handed_back (Some g) = refl
 
 pub given_once : (x y : Given) → given_as x ≡ given_as y → x ≡ y
-given_once = once given_as given_of same
-  where
-    same : (x : Given) → given_of (given_as x) ≡ x
-    same (Given.Gate o t c) = refl
-    same Given.End = refl
-    same (Given.Refused k p) = refl
+given_once = answer_once given_values (λ vs. handed_out (value vs 0) vs) handed_back
+
+-- the calls of `serials`, whose refusals are numbers that a caller may have put there
+abbrev told_in : Answer → Result ℕ Stopped
+told_in (accepted vs) = Ok (value vs 0)
+told_in (refused k p) = Err (record { number = k; place = p })
+
+told_back : (x : Result ℕ Stopped) → told_in (told_as x) ≡ x
+told_back (Ok m) = refl
+told_back (Err e) = refl
+
+pub told_once : (x y : Result ℕ Stopped) → told_as x ≡ told_as y → x ≡ y
+told_once = once told_as told_in told_back
 
 -- ---- references
 

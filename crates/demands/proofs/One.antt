@@ -19,8 +19,9 @@ use Rattle.synthesis.specs.Synthesis.{bound, synthesized, synthesize_answer, syn
 use Rattle.rules.specs.Tidying.{tidied, tidy_answer, tidy_buffer}
 use Rattle.choice.specs.Choice.{second_wins, choose_answer}
 use Rattle.files.specs.Files.{file_size, lines_in, count, start_of, trailer_at, records_of, on_file, opening_of, opening_answer, write_answer, write_room, read_answer, read_records, read_note}
-use Rattle.readers.specs.Readers.{record_stands, as_given, given_as, given_at, place_after, turn_at}
-use Rattle.readers.specs.declared.Given.{Given}
+use Rattle.readers.specs.Readers.{Given, record_stands, as_given, given_as, given_at, place_after, turn_at}
+use Rattle.std.specs.Prelude.{Ok, Err, Some, None}
+use Rattle.card.specs.declared.Refusal.{Refusal}
 use Rattle.listings.specs.Listings.{listing_text, listing_answer, listing_room}
 use Rattle.sheets.specs.Sheets.{lines_of, entries_of, file_answer, sheet_text, sheet_answer, sheet_room}
 use Rattle.texts.specs.GateTexts.{gate_texts}
@@ -145,7 +146,7 @@ unfolding given_at decided refusing
 next n f at end = go (lines_ok n) (record_stands f at end) (is_record n f at)
   where
     go : (lines stands gate : Bool)
-        → Exactly (given_as (cond lines (cond stands (cond gate (as_given (gate_at f at)) (Given.Refused 7 at)) Given.End) (Given.Refused 1 0)))
+        → Exactly (given_as (cond lines (cond stands (cond gate (as_given (gate_at f at)) (Err (Refusal.NoGate at))) (Ok None)) (Err Refusal.Lines)))
         (record { applies = not lines; number = 1; place = 0 } ∷ record { applies = stands && not gate; number = 7; place = at } ∷ [])
         (cond stands (values (given_as (as_given (gate_at f at)))) (0 ∷ []))
     go false true gate = exactly _ _
@@ -160,12 +161,12 @@ unfolding turn_at place_after
 next_kept n f at end k p e = go (given_at f n at end) e
   where
     go : (given : Given) → given_as given ≡ refused k p → place_after given at ≡ at
-    go (Given.Gate o t c) e = not_accepted k p _ (sym e)
-    go Given.End e = refl
-    go (Given.Refused j q) e = refl
+    go (Ok (Some g)) e = not_accepted k p _ (sym e)
+    go (Ok None) e = refl
+    go (Err d) e = refl
 
 -- after the end it stays there
-pub next_end : (n : ℕ) (f : List ℕ) (at end : ℕ) → (turn_at f n at end).given ≡ Given.End → (turn_at f n at end).at ≡ at
+pub next_end : (n : ℕ) (f : List ℕ) (at end : ℕ) → (turn_at f n at end).given ≡ Ok None → (turn_at f n at end).at ≡ at
 unfolding turn_at place_after
 next_end n f at end e = rw e
 

@@ -29,7 +29,7 @@ use Rattle.synthesis.proofs.Synthesis.{synthesized_computes, synthesized_inverse
 use Rattle.files.specs.Files.{write_answer, write_room, read_answer, read_records, read_note, opening_answer, count, records_of}
 use Rattle.files.specs.RoundTrips.{Bytes, GivesBack, GivesFile}
 use Rattle.files.proofs.RoundTrips.{read_written, written_read}
-use Rattle.readers.specs.declared.Given.{Given}
+use Rattle.std.specs.Prelude.{Ok, None}
 use Rattle.readers.specs.declared.Reader.{Reader}
 use Rattle.readers.specs.Readers.{as_given, handed, Opened}
 use Rattle.readers.proofs.Handed.{reader_gates}
@@ -121,7 +121,7 @@ back_and_there = written_read
 
 -- a reader opened on an accepted file and asked again and again: exactly the file's gates in order, and then the end for ever
 pub reader_walk : (f : Bor (List ℕ)) (r : Reader) (vs : List ℕ) → Opened f r → opening_answer f.now ≡ accepted vs → (k : ℕ)
-    → handed r (count f.now + k) ≡ map as_given (gates_of (records_of 8 f.now)) ++ replicate k Given.End
+    → handed r (count f.now + k) ≡ map as_given (gates_of (records_of 8 f.now)) ++ replicate k (Ok None)
 reader_walk = reader_gates
 
 -- ---- texts in document 003's names

@@ -1,11 +1,8 @@
 -- Where a call accepts, what it has written lies within the room that was lent to it. Assumes nothing.
-use mathlib.Core.Path.{◌≡◌, sym}
-use mathlib.Core.List.{List, [], ◌∷◌}
-use Prim.Native.Nat.{ℕ, ◌*◌, ◌/◌, ◌^◌, ◌≤◌}
-use native.Mathlib.Omega.{arith}
-use lib.Dec.{ltb}
-use lib.ListN.{length}
-use borrow.Author.Tests.{ltb-false, not-false}
+use Rattle.std.proofs.Common.{◌≡◌, sym, List, [], ◌∷◌, ℕ, ◌*◌, ◌/◌, ◌^◌, ◌≤◌, ltb, length, arith}
+use Rattle.std.proofs.lemmas.Bool.{ltb-false, not-false}
+use Rattle.std.proofs.lemmas.List.{length-take-le}
+use Rattle.digits.proofs.Sizes.{patterns_most}
 use Rattle.card.specs.Card.{Answer.accepted, refusing, on_lines}
 use Rattle.card.proofs.Cards.{lines_are, refusing_passed}
 use Rattle.tables.proofs.Accepts.{table_accepted}
@@ -56,3 +53,6 @@ synthesized_fits n t room m e =
     let p = table_accepted (3 ^ n) t _ (m ∷ []) o.1 in
     let r = roomy (room / 8) (bound n) (length (synthesized n t)) m p.1 in
     omega (arith, r.0, r.1, synthesized_bound n t (lines_are n (not-false _ o.0)).1 p.0)
+
+-- a table, and what a call has written, is a part of its room, and as long as is told
+pub ruleset fitting = (table_fits, inverse_fits, tidied_fits, synthesized_fits, patterns_most, length-take-le)

@@ -3,28 +3,37 @@
 
 mod adding;
 mod families;
-mod printing;
 mod sums;
 
-use families::Kind;
+use drawing::draws::Manner;
+use families::{Family, Kind};
 use std::io;
 
 fn main(rt: HostRuntime) -> io::Result<()> {
-    families::print_all_tables(&rt)?;
-    families::print_drawn_tables(&rt, 3, 3, 1000)?;
-    families::print_drawn_tables(&rt, 4, 4, 300)?;
-    families::print_drawn_tables(&rt, 5, 5, 60)?;
-    families::print_drawn_tables(&rt, 6, 6, 12)?;
-    families::print_cascades(&rt, b"cascades ", Kind::Single, 3, 103, 1000)?;
-    families::print_cascades(&rt, b"cascades ", Kind::Single, 4, 104, 1000)?;
-    families::print_cascades(&rt, b"cascades ", Kind::Single, 5, 105, 500)?;
-    families::print_cascades(&rt, b"cascades ", Kind::Single, 6, 106, 200)?;
-    families::print_cascades(&rt, b"dense ", Kind::Dense, 3, 203, 1000)?;
-    families::print_cascades(&rt, b"dense ", Kind::Dense, 4, 204, 1000)?;
-    families::print_cascades(&rt, b"dense ", Kind::Dense, 5, 205, 500)?;
-    families::print_cascades(&rt, b"dense ", Kind::Dense, 6, 206, 200)?;
-    families::print_long_cascades(&rt, 3, 303, 10)?;
-    families::print_long_cascades(&rt, 4, 304, 10)?;
-    families::print_long_cascades(&rt, 5, 305, 6)?;
-    families::print_long_cascades(&rt, 6, 306, 6)
+    let single = Kind::Cascades(Manner::Single);
+    let dense = Kind::Cascades(Manner::Dense);
+    // There are 9! = 362,880 tables on two lines.
+    let families = [
+        Family::new(Kind::AllTables, 2, 0, 362880),
+        Family::new(Kind::Tables, 3, 3, 1000),
+        Family::new(Kind::Tables, 4, 4, 300),
+        Family::new(Kind::Tables, 5, 5, 60),
+        Family::new(Kind::Tables, 6, 6, 12),
+        Family::new(single, 3, 103, 1000),
+        Family::new(single, 4, 104, 1000),
+        Family::new(single, 5, 105, 500),
+        Family::new(single, 6, 106, 200),
+        Family::new(dense, 3, 203, 1000),
+        Family::new(dense, 4, 204, 1000),
+        Family::new(dense, 5, 205, 500),
+        Family::new(dense, 6, 206, 200),
+        Family::new(Kind::LongCascades, 3, 303, 10),
+        Family::new(Kind::LongCascades, 4, 304, 10),
+        Family::new(Kind::LongCascades, 5, 305, 6),
+        Family::new(Kind::LongCascades, 6, 306, 6),
+    ];
+    for family in &families {
+        rt.print(family)?;
+    }
+    Ok(())
 }

@@ -1,7 +1,7 @@
 -- The laws of `digit` and `put`, each once, over any radix and any line.
 -- Everything rests on how the two go over to p / r: `digit_zero`, `digit_suc`, `put_zero`, `put_suc`. Assumes nothing.
 use mathlib.Core.Path.{◌≡◌, refl, sym, ap, ◌∙◌}
-use Prim.Native.Nat.{ℕ, zero, suc, ◌+◌, ◌*◌, ◌/◌, ◌%◌, ◌^◌, ◌≤◌, ◌<◌}
+use Prim.Native.Nat.{ℕ, zero, suc, ◌+◌, ◌-◌, ◌*◌, ◌/◌, ◌%◌, ◌^◌, ◌≤◌, ◌<◌}
 use native.Mathlib.Nat.{pow-zero, pow-suc, pow-succ', pow-le-pow_right, div-one, div-div-eq-div-mul, div-eq_of_lt, div-lt_iff_lt-mul, div-mul-le_self, add-mul-div_left, add-mul-mod_self_left, mod-eq_of_lt, mod-lt, mod-le, mod-add-div, add-zero, zero-add, zero-mod, mul-one, mul-add, mul-suc, mul_left_comm, mul_assoc, mul-le-mul_left, mul-le-mul_right, le_trans, lt_of_lt_of_le}
 use native.Mathlib.Numerals.{add-one}
 use lib.Pow.{pow-add}
@@ -37,6 +37,11 @@ digit_le r k p = le_trans (mul-le-mul_right (r ^ k) (mod-le (p / r ^ k) r)) (div
 pub put_value : (r k p d : ℕ) → put r k p d + digit r k p * r ^ k ≡ p + d * r ^ k
 unfolding put
 put_value r k p d = omega (arith, digit_le r k p)
+
+-- how a program puts a digit d, with the weight w and the digit x that was there
+pub put_parts : (r k p d w x : ℕ) → w ≡ r ^ k → x ≡ digit r k p → (x * w ≤ p) × (p - x * w + d * w ≡ put r k p d)
+unfolding put
+put_parts r k p d w x ew ex = (rw (ew, ex) (digit_le r k p), rw (ew, ex))
 
 pub put_zero : (r p d : ℕ) → put r zero p d ≡ d + r * (p / r)
 put_zero r p d =

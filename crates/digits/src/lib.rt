@@ -4,7 +4,7 @@
 ghost use Rattle.std.specs.Prelude.{◌≡◌, ◌^◌, ◌≤◌, ◌<◌};
 ghost use Rattle.digits.specs.Digits.{digit, put};
 
-// 3 to the k.
+// 3 to the k. A `match`, since `3u16.pow(k)` is a loop of nearly twice the instructions, and synthesis asks for a power for each gate.
 pub fn power(k: usize) -> u16
     requires { k ≤ 6 }
     ensures { result ≡ 3 ^ k }

@@ -1,7 +1,8 @@
 -- An answer as the five numbers that C and Rust callers get.
-use Rattle.std.specs.Prelude.{ℕ, ◌+◌, ◌*◌, [], ◌∷◌, get_or}
+use Rattle.std.specs.Prelude.{ℕ, ◌+◌, ◌*◌, [], ◌∷◌, get_or, Ok, Err, Some, None}
 use Rattle.card.specs.Card.{Answer, Answer.accepted, Answer.refused, number, place, values}
-use Rattle.readers.specs.declared.Given.{Given}
+use Rattle.card.specs.Answers.{number_of, place_of}
+use Rattle.readers.specs.Readers.{Given}
 use Rattle.readers.specs.declared.Turn.{Turn}
 use Rattle.serials.specs.declared.Serial.{Serial}
 use Rattle.serials.specs.Serials.{standing}
@@ -15,9 +16,9 @@ numbers a =
 -- a reader's turn: 1 for a gate and 0 for the end, the place afterwards, and the gate as one number: the operator in byte 0, the target in byte 1,
 -- the packed controls from byte 2 on
 abbrev pub handed_as : Given → ℕ → Answer
-handed_as (Given.Gate o t c) at = accepted (1 ∷ at ∷ (o + 256 * t + 0x1_0000 * c) ∷ [])
-handed_as Given.End at = accepted (0 ∷ at ∷ [])
-handed_as (Given.Refused k p) at = refused k p
+handed_as (Ok (Some g)) at = accepted (1 ∷ at ∷ (g.operator + 256 * g.target + 0x1_0000 * g.controls) ∷ [])
+handed_as (Ok None) at = accepted (0 ∷ at ∷ [])
+handed_as (Err e) at = refused (number_of e) (place_of e)
 
 abbrev pub turn_as : Turn → Answer
 turn_as t = handed_as t.given t.at

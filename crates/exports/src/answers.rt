@@ -1,27 +1,20 @@
-// Each kind of answer as numbers.
-ghost use Rattle.std.specs.Prelude.{◌≡◌, ◌∷◌, []};
+// Answers as numbers.
+ghost use Rattle.std.specs.Prelude.{◌≡◌, ℕ, List, ◌∷◌, []};
 ghost use Rattle.card.specs.Card.{Answer.accepted, Answer.refused};
-ghost use Rattle.tables.specs.Tables.{checked_as};
-ghost use Rattle.cascades.specs.Answers.{counted_as, ran_as};
-ghost use Rattle.pricing.specs.Prices.{priced_as};
-ghost use Rattle.tabulating.specs.Tabulating.{tabulated_as};
-ghost use Rattle.tidying.specs.TidyAnswers.{tidied_as};
-ghost use Rattle.choice.specs.Choice.{choice_as};
-ghost use Rattle.files.specs.Files.{written_as, read_as, opening_as};
-ghost use Rattle.listings.specs.Listings.{listed_as};
+ghost use Rattle.card.specs.Answers.{answer_as};
+ghost use Rattle.tidying.specs.TidyAnswers.{tidied_values};
+ghost use Rattle.choice.specs.Choice.{choice_values};
+ghost use Rattle.files.specs.Files.{read_values, extent_values};
 ghost use Rattle.serials.specs.Serials.{told_as, told_of};
 ghost use Rattle.exports.specs.Numbers.{numbers, handed_as};
 
 use super::Numbers;
-use cascades::{Counted, Ran};
+use card::Refusal;
 use choice::Choice;
-use files::{Extent, ReadBack, Written};
-use listings::Listed;
-use pricing::Priced;
+use files::{Extent, ReadBack};
+use gates::Gate;
 use readers::Given;
-use serials::{Scan, Told, scanning};
-use tables::Checked;
-use tabulating::Tabulated;
+use serials::{Scan, Stopped, scanning};
 use tidying::Tidied;
 
 // An accepted call with its values.
@@ -50,130 +43,121 @@ fn refuse(number: u8, place: usize) -> Numbers
     }
 }
 
-pub fn checked(answer: Checked) -> Numbers
-    ensures { result ≡ numbers (checked_as answer) }
-{
-    match answer {
-        Checked::Accepted => accept(0, 0, 0),
-        Checked::Refused { number, place } => refuse(number, place),
+// What an accepted call answers: its values, and with them the numbers that go out.
+pub trait Values {
+    ghost values: { Self → List ℕ };
+
+    fn numbers(self) -> Numbers
+        ensures { result ≡ numbers (accepted (values self)) };
+}
+
+impl Values for () {
+    ghost values = { λ _. [] };
+
+    fn numbers(self) -> Numbers {
+        accept(0, 0, 0)
     }
 }
 
-pub fn counted(answer: Counted) -> Numbers
-    ensures { result ≡ numbers (counted_as answer) }
-{
-    match answer {
-        Counted::Gates(gates) => accept(gates as u64, 0, 0),
-        Counted::Refused { number, place } => refuse(number, place),
+impl Values for usize {
+    ghost values = { λ m. m ∷ [] };
+
+    fn numbers(self) -> Numbers {
+        accept(self as u64, 0, 0)
     }
 }
 
-pub fn ran(answer: Ran) -> Numbers
-    ensures { result ≡ numbers (ran_as answer) }
-{
-    match answer {
-        Ran::Pattern(pattern) => accept(pattern as u64, 0, 0),
-        Ran::Refused { number, place } => refuse(number, place),
+impl Values for u16 {
+    ghost values = { λ pattern. pattern ∷ [] };
+
+    fn numbers(self) -> Numbers {
+        accept(u64::from(self), 0, 0)
     }
 }
 
-pub fn tabulated(answer: Tabulated) -> Numbers
-    ensures { result ≡ numbers (tabulated_as answer) }
-{
-    match answer {
-        Tabulated::Entries(entries) => accept(entries as u64, 0, 0),
-        Tabulated::Refused { number, place } => refuse(number, place),
+impl Values for u32 {
+    ghost values = { λ cost. cost ∷ [] };
+
+    fn numbers(self) -> Numbers {
+        accept(u64::from(self), 0, 0)
     }
 }
 
-pub fn priced(answer: Priced) -> Numbers
-    ensures { result ≡ numbers (priced_as answer) }
-{
-    match answer {
-        Priced::Cost(cost) => accept(cost as u64, 0, 0),
-        Priced::Refused { number, place } => refuse(number, place),
+impl Values for Tidied {
+    ghost values = { tidied_values };
+
+    fn numbers(self) -> Numbers {
+        accept(self.left as u64, self.steps as u64, 0)
     }
 }
 
-pub fn tidied(answer: Tidied) -> Numbers
-    ensures { result ≡ numbers (tidied_as answer) }
-{
-    match answer {
-        Tidied::Gates { left, steps } => accept(left as u64, steps as u64, 0),
-        Tidied::Refused { number, place } => refuse(number, place),
+impl Values for Choice {
+    ghost values = { choice_values };
+
+    fn numbers(self) -> Numbers {
+        match self {
+            Choice::First => accept(1, 0, 0),
+            Choice::Second => accept(2, 0, 0),
+        }
     }
 }
 
-pub fn chosen(answer: Choice) -> Numbers
-    ensures { result ≡ numbers (choice_as answer) }
-{
-    match answer {
-        Choice::First => accept(1, 0, 0),
-        Choice::Second => accept(2, 0, 0),
-        Choice::Refused { number, place } => refuse(number, place),
+impl Values for ReadBack {
+    ghost values = { read_values };
+
+    fn numbers(self) -> Numbers {
+        accept(u64::from(self.lines), self.gates as u64, self.note as u64)
     }
 }
 
-pub fn written(answer: Written) -> Numbers
-    ensures { result ≡ numbers (written_as answer) }
-{
-    match answer {
-        Written::Bytes(bytes) => accept(bytes as u64, 0, 0),
-        Written::Refused { number, place } => refuse(number, place),
+impl Values for Extent {
+    ghost values = { extent_values };
+
+    fn numbers(self) -> Numbers {
+        accept(u64::from(self.lines), self.at as u64, self.end as u64)
     }
 }
 
-pub fn read(answer: ReadBack) -> Numbers
-    ensures { result ≡ numbers (read_as answer) }
+// What a call answers.
+pub fn answered<A: Values>(answer: Result<A, Refusal>) -> Numbers
+    ensures { result ≡ numbers (answer_as A.values answer) }
 {
     match answer {
-        ReadBack::Parts { lines, gates, note } => accept(lines as u64, gates as u64, note as u64),
-        ReadBack::Refused { number, place } => refuse(number, place),
+        Ok(accepted) => accepted.numbers(),
+        Err(refusal) => refuse(refusal.number(), refusal.place()),
     }
 }
 
-pub fn opened(answer: Extent) -> Numbers
-    ensures { result ≡ numbers (opening_as answer) }
-{
-    match answer {
-        Extent::Frame { lines, at, end } => accept(lines as u64, at as u64, end as u64),
-        Extent::Refused { number, place } => refuse(number, place),
-    }
-}
-
+// What a reader hands out, and its place afterwards.
 pub fn handed(given: Given, at: usize) -> Numbers
     ensures { result ≡ numbers (handed_as given at) }
 {
     match given {
-        Given::Gate {
-            operator,
-            target,
-            controls,
-        } => accept(
+        Ok(
+            Some(
+                Gate {
+                    operator,
+                    target,
+                    controls,
+                },
+            ),
+        ) => accept(
             1,
             at as u64,
             operator as u64 + 256 * target as u64 + 0x1_0000 * controls as u64,
         ),
-        Given::End => accept(0, at as u64, 0),
-        Given::Refused { number, place } => refuse(number, place),
+        Ok(None) => accept(0, at as u64, 0),
+        Err(refusal) => refuse(refusal.number(), refusal.place()),
     }
 }
 
-pub fn listed(answer: Listed) -> Numbers
-    ensures { result ≡ numbers (listed_as answer) }
-{
-    match answer {
-        Listed::Bytes(bytes) => accept(bytes as u64, 0, 0),
-        Listed::Refused { number, place } => refuse(number, place),
-    }
-}
-
-pub fn told(answer: Told) -> Numbers
+// What a reader of the serial lead tells.
+pub fn told(answer: Result<usize, Stopped>) -> Numbers
     ensures { result ≡ numbers (told_as answer) }
 {
     match answer {
-        Told::Entries(entries) => accept(entries as u64, 0, 0),
-        Told::Refused { number, place } => refuse(number, place),
+        Ok(entries) => entries.numbers(),
+        Err(Stopped { number, place }) => refuse(number, place),
     }
 }
 

@@ -17,13 +17,14 @@ ghost use Rattle.names.specs.Names.{read_names_answer, read_names_room, write_na
 ghost use Rattle.serials.specs.Serials.{started, fed, ended, ended_table};
 ghost use Rattle.exports.specs.Numbers.{numbers, turn_as, said_by};
 
+use readers::Turn;
 use serials::{Serial, scanning};
 
 pub mod answers;
 
 // struct tiles_answer
 #[repr(C)]
-#[derive(Clone, Copy)]
+#[derive(Clone, Copy, Debug, PartialEq, Eq)]
 pub struct Numbers {
     pub number: u64,
     pub place: u64,
@@ -35,66 +36,66 @@ pub struct Numbers {
 pub fn tiles_check_table(lines: u8, table: &[u16]) -> Numbers
     ensures { result ≡ numbers (check_table_answer lines table.now) }
 {
-    answers::checked(tables::check_table(lines, table))
+    answers::answered(tables::check_table(lines, table))
 }
 
 pub fn tiles_synthesize(lines: u8, table: &[u16], room: &mut [u8]) -> Numbers
     ensures answer { result ≡ numbers (synthesize_answer lines table.now (length room.old)) }
     ensures room_after { room.new ≡ synthesize_room lines table.now room.old }
 {
-    answers::counted(synthesis::synthesize(lines, table, room))
+    answers::answered(synthesis::synthesize(lines, table, room))
 }
 
 pub fn tiles_check_cascade(lines: u8, cascade: &[u8]) -> Numbers
     ensures { result ≡ numbers (check_answer lines cascade.now) }
 {
-    answers::counted(cascades::check_cascade(lines, cascade))
+    answers::answered(cascades::check_cascade(lines, cascade))
 }
 
 pub fn tiles_run(lines: u8, cascade: &[u8], pattern: u16) -> Numbers
     ensures { result ≡ numbers (run_answer lines cascade.now pattern) }
 {
-    answers::ran(cascades::run(lines, cascade, pattern))
+    answers::answered(cascades::run(lines, cascade, pattern))
 }
 
 pub fn tiles_tabulate(lines: u8, cascade: &[u8], room: &mut [u16]) -> Numbers
     ensures answer { result ≡ numbers (tabulate_answer lines cascade.now (length room.old)) }
     ensures room_after { room.new ≡ tabulate_room lines cascade.now room.old }
 {
-    answers::tabulated(tabulating::tabulate(lines, cascade, room))
+    answers::answered(tabulating::tabulate(lines, cascade, room))
 }
 
 pub fn tiles_invert(lines: u8, cascade: &[u8], room: &mut [u8]) -> Numbers
     ensures answer { result ≡ numbers (invert_answer lines cascade.now (length room.old)) }
     ensures room_after { room.new ≡ invert_room lines cascade.now room.old }
 {
-    answers::counted(cascades::invert(lines, cascade, room))
+    answers::answered(cascades::invert(lines, cascade, room))
 }
 
 pub fn tiles_price(lines: u8, value: u8, fitted: u8, cascade: &[u8]) -> Numbers
     ensures { result ≡ numbers (price_answer lines value fitted cascade.now) }
 {
-    answers::priced(pricing::price(lines, value, fitted, cascade))
+    answers::answered(pricing::price(lines, value, fitted, cascade))
 }
 
 pub fn tiles_tidy(lines: u8, cascade: &mut [u8]) -> Numbers
     ensures answer { result ≡ numbers (tidy_answer lines cascade.old) }
     ensures cascade_after { cascade.new ≡ tidy_buffer lines cascade.old }
 {
-    answers::tidied(tidying::tidy(lines, cascade))
+    answers::answered(tidying::tidy(lines, cascade))
 }
 
 pub fn tiles_choose(lines: u8, value: u8, fitted: u8, first: &[u8], second: &[u8]) -> Numbers
     ensures { result ≡ numbers (choose_answer lines value fitted first.now second.now) }
 {
-    answers::chosen(choice::choose(lines, value, fitted, first, second))
+    answers::answered(choice::choose(lines, value, fitted, first, second))
 }
 
 pub fn tiles_write_file(lines: u8, cascade: &[u8], note: &[u8], room: &mut [u8]) -> Numbers
     ensures answer { result ≡ numbers (write_answer lines cascade.now note.now (length room.old)) }
     ensures room_after { room.new ≡ write_room lines cascade.now note.now room.old }
 {
-    answers::written(files::write_file(lines, cascade, note, room))
+    answers::answered(files::write_file(lines, cascade, note, room))
 }
 
 pub fn tiles_read_file(file: &[u8], records: &mut [u8], note: &mut [u8]) -> Numbers
@@ -102,50 +103,49 @@ pub fn tiles_read_file(file: &[u8], records: &mut [u8], note: &mut [u8]) -> Numb
     ensures records_after { records.new ≡ read_records file.now records.old note.old }
     ensures note_after { note.new ≡ read_note file.now records.old note.old }
 {
-    answers::read(files::read_file(file, records, note))
+    answers::answered(files::read_file(file, records, note))
 }
 
 pub fn tiles_opening(file: &[u8]) -> Numbers
     ensures { result ≡ numbers (opening_answer file.now) }
 {
-    answers::opened(files::opening(file))
+    answers::answered(files::opening(file))
 }
 
 // The reader's turn with the reader's numbers in the caller's hands.
 pub fn tiles_next(file: &[u8], lines: u8, place: usize, end: usize) -> Numbers
     ensures { result ≡ numbers (turn_as (turn_at file.now lines place end)) }
 {
-    let turn = readers::turn_at(file, lines, place, end);
-    let given = turn.given;
-    answers::handed(given, turn.at)
+    let Turn { given, at } = readers::turn_at(file, lines, place, end);
+    answers::handed(given, at)
 }
 
 pub fn tiles_listing(lines: u8, cascade: &[u8], room: &mut [u8]) -> Numbers
     ensures answer { result ≡ numbers (listing_answer lines cascade.now (length room.old)) }
     ensures room_after { room.new ≡ listing_room lines cascade.now room.old }
 {
-    answers::listed(listings::listing(lines, cascade, room))
+    answers::answered(listings::listing(lines, cascade, room))
 }
 
 pub fn tiles_sheet(file: &[u8], room: &mut [u8]) -> Numbers
     ensures answer { result ≡ numbers (sheet_answer file.now (length room.old)) }
     ensures room_after { room.new ≡ sheet_room file.now room.old }
 {
-    answers::listed(sheets::sheet(file, room))
+    answers::answered(sheets::sheet(file, room))
 }
 
 pub fn tiles_read_names(lines: u8, text: &[u8], room: &mut [u8]) -> Numbers
     ensures answer { result ≡ numbers (read_names_answer lines text.now (length room.old)) }
     ensures room_after { room.new ≡ read_names_room lines text.now room.old }
 {
-    answers::counted(names::read_names(lines, text, room))
+    answers::answered(names::read_names(lines, text, room))
 }
 
 pub fn tiles_write_names(lines: u8, cascade: &[u8], room: &mut [u8]) -> Numbers
     ensures answer { result ≡ numbers (write_names_answer lines cascade.now (length room.old)) }
     ensures room_after { room.new ≡ write_names_room lines cascade.now room.old }
 {
-    answers::listed(names::write_names(lines, cascade, room))
+    answers::answered(names::write_names(lines, cascade, room))
 }
 
 // The reader of the serial lead is lent, and changed where it lies.

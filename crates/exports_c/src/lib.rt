@@ -1,4 +1,5 @@
-// Every call for programs in C and Rust: a call's answer goes out as five numbers. include/tiles.h is this file in C's words.
+// Every call for programs in C and Rust: a call's answer goes out as five numbers. include/tiles.h is this file in C's words. C's linker wants a function
+// for each name, so that these repeat those of `exports`, which Rattle's own programs call.
 #![tactic(auto)]
 
 ghost use Rattle.std.specs.Prelude.{◌≡◌, length};

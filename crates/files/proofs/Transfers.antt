@@ -4,14 +4,20 @@ use mathlib.Core.List.{List, [], ◌∷◌}
 use Prim.Native.Nat.{ℕ, ◌/◌, ◌≤◌, ◌<◌}
 use lib.ListN.{length}
 use borrow.Author.Tests.{lt-ltb, le-ltb, ltb-false}
+use Rattle.std.specs.Prelude.{Result}
+use Rattle.std.specs.Result.{IsErrAnd}
+use Rattle.card.specs.declared.Refusal.{Refusal}
 use Rattle.card.specs.Card.{Answer.accepted, Answer.refused, laid}
-use Rattle.card.proofs.Cards.{refusing_yes, refusing_no, refusing_passed, refused_both, accepted_both}
+use Rattle.card.specs.Answers.{number_of, place_of}
+use Rattle.card.proofs.Cards.{refusing_yes, refusing_no, refusing_passed, after_refused, accepted_both}
+use Rattle.card.proofs.Exits.{exit}
 use Rattle.gates.specs.Records.{is_record}
 use Rattle.cascades.specs.Cascades.{records}
 use Rattle.cascades.specs.Inner.Checked.{Whole}
 use Rattle.cascades.proofs.Answers.{behind_accepted}
 use Rattle.cascades.proofs.Checks.{passed}
-use Rattle.files.specs.Files.{count, lines_in, start_of, note_of, records_of, file_size, write_answer, read_answer, read_records, read_note}
+use Rattle.files.specs.declared.ReadBack.{ReadBack}
+use Rattle.files.specs.Files.{read_as, count, lines_in, start_of, note_of, records_of, file_size, write_answer, read_answer, read_records, read_note}
 use Rattle.files.proofs.Frames.{Right}
 use Rattle.files.proofs.Openings.{Opens, file_accepted, on_file_passed}
 
@@ -25,10 +31,13 @@ module _ (f room note_room : List ℕ) where
     pub note_fits : start_of 8 f ≤ length note_room
     pub is : vs ≡ lines_in f ∷ count f ∷ start_of 8 f ∷ []
 
-  pub read_refused : (k p : ℕ) → read_answer f (length room) (length note_room) ≡ refused k p
-      → record { answer : refused k p ≡ read_answer f (length room) (length note_room); records_after : room ≡ read_records f room note_room; note_after : note_room ≡ read_note f room note_room }
-  unfolding read_records read_note
-  read_refused k p e = record { answer = sym e; records_after = (refused_both _ k p _ room e).room_after; note_after = (refused_both _ k p _ note_room e).room_after }
+  -- the call's three promises at once where it hands on the refusal e of another, of which is known that it is d
+  module _ (e d : Refusal) (is : e ≡ d) (r : Result ReadBack Refusal) (w : IsErrAnd r (λ y. y ≡ e)) where
+    pub read_exit : read_answer f (length room) (length note_room) ≡ refused (number_of d) (place_of d)
+        → record { answer : read_as r ≡ read_answer f (length room) (length note_room); records_after : room ≡ read_records f room note_room; note_after : note_room ≡ read_note f room note_room }
+    unfolding read_records read_note
+    read_exit q =
+        record { answer = exit _ _ _ is r w ∙ sym q; records_after = sym (after_refused _ _ _ _ room q); note_after = sym (after_refused _ _ _ _ note_room q) }
 
   module _ (r : Right 8 1 f) (w : Whole (lines_in f) (records_of 8 f) (count f)) where
     pub read_records_small : length room / 8 < count f → read_answer f (length room) (length note_room) ≡ refused 5 (count f)

@@ -1,28 +1,29 @@
 -- The cascade file: a note, the records, and a trailer that points back. What holds of every edition is said over the trailer's size z and the
 -- edition e; the calls write and read edition 1, with a trailer of 8 bytes.
-use Rattle.std.specs.Prelude.{ℕ, ◌+◌, ◌-◌, ◌*◌, ◌/◌, Bool, not, ◌&&◌, List, [], ◌∷◌, ◌++◌, eqb, leb, ltb, length, get_or, take, drop}
+use Rattle.std.specs.Prelude.{ℕ, ◌+◌, ◌-◌, ◌*◌, ◌/◌, Bool, not, ◌&&◌, List, [], ◌∷◌, ◌++◌, eqb, leb, ltb, length, get_or, take, drop, Result}
 use Rattle.ranges.specs.Ranges.{span}
 use Rattle.digits.specs.Digits.{digit, pack}
-use Rattle.card.specs.Card.{Answer, Answer.accepted, Answer.refused, refusing, on_lines, after, laid}
+use Rattle.card.specs.Card.{Answer, Answer.accepted, refusing, on_lines, after, laid}
+use Rattle.card.specs.declared.Refusal.{Refusal}
+use Rattle.card.specs.Answers.{answer_as}
 use Rattle.cascades.specs.Cascades.{records}
 use Rattle.cascades.specs.Answers.{on_cascade}
-use Rattle.files.specs.declared.Written.{Written}
 use Rattle.files.specs.declared.ReadBack.{ReadBack}
 use Rattle.files.specs.declared.Extent.{Extent}
 
--- ---- the document's number and values for each case of an answer
+-- ---- the document's values for what was read, and for where the gates stand
 
-abbrev pub written_as : Written → Answer
-written_as (Written.Bytes m) = accepted (m ∷ [])
-written_as (Written.Refused k p) = refused k p
+abbrev pub read_values : ReadBack → List ℕ
+read_values r = r.lines ∷ r.gates ∷ r.note ∷ []
 
-abbrev pub read_as : ReadBack → Answer
-read_as (ReadBack.Parts n m s) = accepted (n ∷ m ∷ s ∷ [])
-read_as (ReadBack.Refused k p) = refused k p
+abbrev pub read_as : Result ReadBack Refusal → Answer
+read_as r = answer_as read_values r
 
-abbrev pub opening_as : Extent → Answer
-opening_as (Extent.Frame n at end) = accepted (n ∷ at ∷ end ∷ [])
-opening_as (Extent.Refused k p) = refused k p
+abbrev pub extent_values : Extent → List ℕ
+extent_values x = x.lines ∷ x.at ∷ x.end ∷ []
+
+abbrev pub opening_as : Result Extent Refusal → Answer
+opening_as r = answer_as extent_values r
 
 -- ---- numbers in bytes, low byte first
 

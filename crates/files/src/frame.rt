@@ -5,23 +5,16 @@ ghost use Rattle.cascades.specs.Answers.{on_cascade};
 ghost use Rattle.files.specs.Files.{opening_as, number_at, frame_ok, opening_of};
 
 use crate::Extent;
-use gates::Record;
+use card::Refusal;
 
 // The number that the k bytes from a place on write down, low byte first.
 pub fn number_at(k: usize, file: &[u8], at: usize) -> usize
     requires { (k ≤ 4) × (at + k ≤ length file.now) }
     ensures { (result ≡ number_at k file.now at) × (result < 256 ^ k) }
 {
-    let mut x: usize = 0;
-    let mut w: usize = 1;
-    let mut i: usize = 0;
-    while i < k {
-        let byte = file[at + i] as usize;
-        x = x + byte * w;
-        w = w * 256;
-        i = i + 1;
-    }
-    x
+    let mut bytes = [0u8; 4];
+    bytes[..k].copy_from_slice(&file[at..at + k]);
+    u32::from_le_bytes(bytes) as usize
 }
 
 // The frame is right: refusal 9 otherwise.
@@ -49,45 +42,26 @@ pub fn frame_ok(file: &[u8], size: usize, edition: u8) -> bool
 }
 
 // The records between two places of a file are gates: refusals 1, 6, 7.
-pub fn gates_between(lines: u8, records: &[u8], at: usize, end: usize) -> Extent
+pub fn gates_between(lines: u8, records: &[u8], at: usize, end: usize) -> Result<Extent, Refusal>
     ensures { opening_as result ≡ on_lines lines (on_cascade lines records.now (accepted (lines ∷ at ∷ end ∷ []))) }
 {
-    if !card::lines_ok(lines) {
-        return Extent::Refused {
-            number: 1,
-            place: 0,
+    card::check_lines(lines)?;
+    cascades::lengths::check_length(records.len())?;
+    for i in 0..records.len() / 8 {
+        let Ok(_) = gates::decode(lines, records, 8 * i) else {
+            return Err(Refusal::NoGate(i));
         };
     }
-    if !cascades::lengths::length_ok(records.len()) {
-        return Extent::Refused {
-            number: 6,
-            place: 0,
-        };
-    }
-    let count = records.len() / 8;
-    let mut i: usize = 0;
-    while i < count {
-        let Record::Gate { .. } = gates::decode(lines, records, 8 * i) else {
-            return Extent::Refused {
-                number: 7,
-                place: i,
-            };
-        };
-        i = i + 1;
-    }
-    Extent::Frame { lines, at, end }
+    Ok(Extent { lines, at, end })
 }
 
 // Where the gates of a file stand: refusals 9, 1, 6, 7.
-pub fn opening_of(file: &[u8], size: usize, edition: u8) -> Extent
+pub fn opening_of(file: &[u8], size: usize, edition: u8) -> Result<Extent, Refusal>
     requires { 8 ≤ size }
     ensures { opening_as result ≡ opening_of size edition file.now }
 {
     if !frame_ok(file, size, edition) {
-        return Extent::Refused {
-            number: 9,
-            place: 0,
-        };
+        return Err(Refusal::Frame);
     }
     let tail = file.len() - 8;
     let end = file.len() - size;

@@ -1,52 +1,57 @@
 // FNV-1a with 32 bits, by which the vector programs show every byte that they lent.
 #![tactic(auto)]
 
-ghost use Rattle.std.specs.Prelude.{◌<◌};
+ghost use Rattle.std.specs.Prelude.{◌≡◌, Some, fold};
+ghost use Rattle.std.specs.List.{flat_map};
+ghost use Rattle.fingerprints.specs.Inner.Fnv.{fnv_new, fnv_write, fnv_text};
 
-use std::io;
+use std::fmt;
+use std::hash::{Hash, Hasher};
 
-// The digest of nothing.
-pub const EMPTY: u32 = 0x811c_9dc5;
+// The digest of all that was written so far.
+#[derive(Clone, Copy)]
+pub struct Fnv(pub u32);
 
-// A byte further.
-fn digest_byte(digest: u32, byte: u8) -> u32 {
-    digest_mixed(digest ^ (byte as u32))
-}
+impl Default for Fnv {
+    ghost is_default = { λ digest. digest ≡ fnv_new };
 
-// Multiplied by FNV's prime modulo 2^32.
-fn digest_mixed(mixed: u32) -> u32 {
-    (mixed as u64 * 0x100_0193 % 0x1_0000_0000) as u32
-}
-
-// So many bytes further.
-pub fn digest_bytes(digest: u32, bytes: &[u8]) -> u32 {
-    let mut d = digest;
-    let mut i: usize = 0;
-    while i < bytes.len() {
-        d = digest_byte(d, bytes[i]);
-        i = i + 1;
+    // The digest of nothing.
+    fn default() -> Fnv {
+        Fnv(0x811c_9dc5)
     }
-    d
 }
 
-// So many entries further, each with its low byte first.
-pub fn digest_entries(digest: u32, entries: &[u16]) -> u32 {
-    let mut d = digest;
-    let mut i: usize = 0;
-    while i < entries.len() {
-        d = digest_entry(d, entries[i]);
-        i = i + 1;
+impl Hasher for Fnv {
+    ghost write = { fnv_write };
+
+    ghost finish = { λ digest. digest.0 };
+
+    fn finish(&self) -> u64 {
+        self.0 as u64
     }
-    d
+
+    fn write(&mut self, bytes: &[u8]) {
+        self.0 = bytes.iter().fold(
+            self.0,
+            |digest, byte| (digest ^ *byte as u32).wrapping_mul(0x100_0193),
+        );
+    }
 }
 
-fn digest_entry(digest: u32, entry: u16) -> u32 {
-    let low = digest_byte(digest, (entry % 256) as u8);
-    digest_byte(low, (entry / 256) as u8)
+// Eight digits in base 16.
+impl fmt::Display for Fnv {
+    ghost output = { λ digest. Some (fnv_text digest.0) };
+
+    fn fmt<W: fmt::Write>(&self, f: &mut fmt::Formatter<W>) -> fmt::Result {
+        write!(f, "{:08x}", self.0)
+    }
 }
 
-// Eight digits in base 16, and what is to stand behind them.
-pub fn print_digest(rt: &impl Print, digest: u32, behind: &[u8]) -> io::Result<()> {
-    print!(rt; "{digest:08x}")?;
-    rt.write_all(behind)
+// The digest of the items: of a byte each, or of an entry's two, the low one first.
+pub fn digest_of<T: Hash>(items: &[T]) -> Fnv
+    ensures { result ≡ fold fnv_write fnv_new (flat_map T.hash_input items.now) }
+{
+    let mut digest = Fnv::default();
+    T::hash_slice(items, &mut digest);
+    digest
 }

@@ -5,24 +5,26 @@ use mathlib.Core.Bool.{Bool, true, false, cond, not, ◌&&◌, ◌||◌, and-fal
 use mathlib.Core.List.{List, [], ◌∷◌}
 use mathlib.Core.Logic.{◌⊎◌}
 use Prim.Native.Nat.{ℕ, zero, suc, ◌+◌, ◌-◌, ◌*◌, ◌/◌, ◌%◌, ◌^◌, ◌≤◌, ◌<◌}
-use native.Mathlib.Nat.{div-one, add-zero, zero-add, add_assoc, lt_of_le_of_lt}
+use native.Mathlib.Nat.{div-one, add-zero, add_assoc, lt_of_le_of_lt}
 use native.Mathlib.Omega.{arith}
 use lib.Dec.{eqb, leb, ltb}
 use lib.ListN.{length, get_or, take, drop}
 use lib.Seq.{get_or-take, get_or-drop}
 use lib.Bits.{bit_and, bit_xor, and_le_r, and_zero_r, xor_zero_r, xor_block}
-use borrow.Author.Tests.{eqb-true, leb-true, ltb-true, ltb-false, eq-eqb, le-leb, lt-leb, lt-ltb, le-ltb}
+use borrow.Author.Tests.{eqb-true, leb-true, ltb-true, eq-eqb, le-leb, lt-leb, lt-ltb, le-ltb}
+use Rattle.std.specs.Int.{w64, to_le_bytes}
 use Rattle.ranges.specs.Ranges.{every, sum}
 use Rattle.ranges.proofs.Bools.{and_right, decide}
 use Rattle.ranges.proofs.Tests.{every_below, every_of, every_ext}
 use Rattle.digits.specs.Digits.{digit, pack}
-use Rattle.digits.proofs.Digits.{digit_zero, digit_suc, digit_lt, digit_low, digit_up, digits_equal, shift_digits, low_div, low_mod}
-use Rattle.digits.proofs.Packs.{pack_ext}
+use Rattle.digits.proofs.Digits.{digit_zero, digit_suc, digit_lt, digits_equal, shift_digits, low_div, low_mod}
+use Rattle.digits.proofs.Packs.{pack_ext, pack_lt, digit_pack}
 use Rattle.digits.proofs.Bits.{digit_and}
 use Rattle.gates.specs.Gates.{inverse_op}
 use Rattle.gates.specs.Records.{line_ok, lines_ok_at, packed_at, is_record, gate_at}
-use Rattle.gates.specs.Inner.Decoding.{as_record, decoded}
-use Rattle.gates.specs.declared.Record.{Record}
+use Rattle.std.specs.Prelude.{Ok, Err}
+use Rattle.card.specs.declared.Refusal.{Refusal}
+use Rattle.gates.specs.Inner.Decoding.{decoded}
 use Rattle.card.specs.Card.{lines_ok}
 use Rattle.gates.proofs.Operators.{inverse_bits}
 use Rattle.gates.proofs.Records.{reads, line_lt}
@@ -97,6 +99,11 @@ byte_in w (suc (suc (suc (suc (suc (suc zero)))))) lt = refl
 byte_in w (suc (suc (suc (suc (suc (suc (suc zero))))))) lt = refl
 byte_in w (suc (suc (suc (suc (suc (suc (suc (suc k)))))))) lt = absurd (omega arith)
 
+-- they are those that std writes
+pub bytes_are : (w : ℕ) → to_le_bytes w64 w ≡ bytes_in w
+unfolding bytes_in digit
+bytes_are w = simp div-one
+
 pub length_word : (w : ℕ) → length (bytes_in w) ≡ 8
 unfolding bytes_in
 length_word w = refl
@@ -151,28 +158,21 @@ module _ (n t : ℕ) (six : n ≤ 6) (on : t < n) where
 
 -- ---- a word put together
 
-module _ (a b c d : ℕ) (la : a < 256) (lb : b < 256) (lc : c < 256) (ld : d < 256) where
-  pub four_bytes : (f : ℕ → ℕ) → a ≡ f 0 → b ≡ f 1 → c ≡ f 2 → d ≡ f 3 → (k : ℕ) → k < 4 → byte k (a + 256 * b + 65536 * c + 16777216 * d) ≡ f k
-  four_bytes f ea eb ec ed zero lt = rw digit_zero (omega arith) ∙ ea
-  four_bytes f ea eb ec ed (suc zero) lt = rw (digit_suc, digit_zero) (omega arith) ∙ eb
-  four_bytes f ea eb ec ed (suc (suc zero)) lt = rw (digit_suc, digit_suc, digit_zero) (omega arith) ∙ ec
-  four_bytes f ea eb ec ed (suc (suc (suc zero))) lt = rw (digit_suc, digit_suc, digit_suc, digit_zero) (omega arith) ∙ ed
-  four_bytes f ea eb ec ed (suc (suc (suc (suc k)))) lt = absurd (omega arith)
-
--- the two halves of 8 bytes
-pub two_halves : (b part : List ℕ) (at lo hi : ℕ) → lo < 256 ^ 4 → hi < 256 ^ 4 → part ≡ take (at + 8 - at) (drop at b)
-    → ((k : ℕ) → k < 4 → byte k lo ≡ get_or part (0 + k) 0) → ((k : ℕ) → k < 4 → byte k hi ≡ get_or part (4 + k) 0) → Word b at (lo + 4294967296 * hi)
-two_halves b part at lo hi llo lhi is elo ehi = record { low = omega arith; bytes = λ k lt. go k lt (decide (ltb k 4)) }
-  where
-    there : (k : ℕ) → k < 8 → get_or part k 0 ≡ get_or b (at + k) 0
-    there k lt = rw is (get_or-take (at + 8 - at) (drop at b) k 0 (omega arith)) ∙ get_or-drop at b k 0
-
-    go : (k : ℕ) → k < 8 → (ltb k 4 ≡ true) ⊎ (ltb k 4 ≡ false) → byte k (lo + 4294967296 * hi) ≡ get_or b (at + k) 0
-    go k lt (◌⊎◌.inl e) = digit_low 256 k 4 lo hi (omega arith) (ltb-true k 4 e) ∙ rw zero-add at (elo k (ltb-true k 4 e)) ∙ there k lt
-    go k lt (◌⊎◌.inr e) =
-        let four : 4 + (k - 4) ≡ k = omega (arith, ltb-false k 4 e) in
-        let up : byte (4 + (k - 4)) (lo + 4294967296 * hi) ≡ get_or part (4 + (k - 4)) 0 = digit_up 256 (k - 4) 4 lo hi llo ∙ ehi (k - 4) (omega arith) in
-        rw four at up ∙ there k lt
+-- 8 bytes of a part of a list, read as one number, the first lowest
+pub word_read : (b part : List ℕ) (at w : ℕ) → ((k : ℕ) → get_or b k 0 < 256) → part ≡ take (at + 8 - at) (drop at b)
+    → w
+    ≡ get_or part 0 0 + get_or part 1 0 * 256 + get_or part 2 0 * 65536 + get_or part 3 0 * 16777216 + get_or part 4 0 * 4294967296 + get_or part 5 0 * 1099511627776 + get_or part 6 0 * 281474976710656 + get_or part 7 0 * 72057594037927936
+    → Word b at w
+unfolding pack sum
+word_read b part at w small is e =
+    let f : ℕ → ℕ = λ k. get_or b (at + k) 0 in
+    let there : (k : ℕ) → k < 8 → get_or part k 0 ≡ f k = λ k lt. rw is (get_or-take (at + 8 - at) (drop at b) k 0 (omega arith)) ∙ get_or-drop at b k 0 in
+    let packed : w ≡ pack 256 f 8 =
+    omega (arith, e, there 0 (omega arith), there 1 (omega arith), there 2 (omega arith), there 3 (omega arith), there 4 (omega arith), there 5 (omega arith), there 6 (omega arith), there 7 (omega arith)) in
+    record {
+      low = rw packed (pack_lt 256 f 8 (λ k lt. small (at + k)));
+      bytes = λ k lt. rw packed (digit_pack 256 f 8 (λ k lt. small (at + k)) k lt);
+    }
 
 -- a byte below the bytes of q
 low_byte : (x q : ℕ) → x < 256 → byte 0 (x + 256 * q) ≡ x
@@ -245,7 +245,7 @@ module _ (b : List ℕ) (at w : ℕ) (read : Word b at w) where
       λ i. record { operator = sym o i; target = sym t i; controls = c i }
 
   -- decoding by the word
-  pub word_decoded : (n : ℕ) → lines_ok n ≡ true → at + 8 ≤ length b → decoded n b at ≡ cond (is_word n w) (as_record (gate_of w)) (Record.Refused 7 at)
+  pub word_decoded : (n : ℕ) → lines_ok n ≡ true → at + 8 ≤ length b → decoded n b at ≡ cond (is_word n w) (Ok (gate_of w)) (Err (Refusal.NoGate at))
   unfolding decoded
   word_decoded n six fits = rw (six, word_is n fits, word_gate)
 

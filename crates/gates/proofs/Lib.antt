@@ -4,3 +4,4 @@ pub mod Records
 pub mod Bytes
 pub mod Marks
 pub mod Firing
+pub mod Lines

@@ -18,13 +18,14 @@ use Rattle.ranges.proofs.Stores.{get_d_sets}
 use Rattle.digits.specs.Digits.{digit}
 use Rattle.digits.proofs.Digits.{digit_lt}
 use Rattle.digits.proofs.Packs.{pack_lt, pack_ext, pack_digits, digit_pack}
+use Rattle.std.specs.Prelude.{Ok, Err}
+use Rattle.card.specs.declared.Refusal.{Refusal}
 use Rattle.card.specs.Card.{lines_ok}
 use Rattle.card.proofs.Cards.{lines_are}
 use Rattle.gates.specs.declared.Gate.{Gate}
-use Rattle.gates.specs.declared.Record.{Record}
 use Rattle.gates.specs.Gates.{control, IsGate}
 use Rattle.gates.specs.Records.{line_ok, lines_ok_at, packed_at, is_record, gate_at, record_of}
-use Rattle.gates.specs.Inner.Decoding.{as_record, decoded}
+use Rattle.gates.specs.Inner.Decoding.{decoded}
 
 -- ---- one control byte
 
@@ -212,9 +213,9 @@ module _ (g : Gate) (b : List ℕ) (at : ℕ) (fits : at + 8 ≤ length b) where
       ∙ every_of (λ k. line_ok n (get_or (sets b at (record_of g)) (at + 1) 0) k (get_or (sets b at (record_of g)) (at + 2 + k) 0)) 6
       (λ k lt. rw (placed_target, placed_control k lt) (gate_line n g ok k lt))
 
-  pub decode_encode : (n : ℕ) → lines_ok n ≡ true → IsGate n g → decoded n (sets b at (record_of g)) at ≡ as_record g
+  pub decode_encode : (n : ℕ) → lines_ok n ≡ true → IsGate n g → decoded n (sets b at (record_of g)) at ≡ Ok g
   unfolding decoded
-  decode_encode n six ok = rw (six, record_written n ok) (ap as_record (gate_written ok.packed))
+  decode_encode n six ok = rw (six, record_written n ok) (ap Ok (gate_written ok.packed))
 
 -- ---- a gate's own record
 
@@ -238,15 +239,15 @@ record_gate n g six small is = subst (λ (x : Gate). IsGate n x) (gate_itself g 
 -- ---- the answer of decoding
 
 module _ (n : ℕ) (b : List ℕ) (at : ℕ) where
-  pub decoded_lines : lines_ok n ≡ false → decoded n b at ≡ Record.Refused 1 0
+  pub decoded_lines : lines_ok n ≡ false → decoded n b at ≡ Err Refusal.Lines
   unfolding decoded
   decoded_lines e = rw e
 
-  pub decoded_not : lines_ok n ≡ true → is_record n b at ≡ false → decoded n b at ≡ Record.Refused 7 at
+  pub decoded_not : lines_ok n ≡ true → is_record n b at ≡ false → decoded n b at ≡ Err (Refusal.NoGate at)
   unfolding decoded
   decoded_not e f = rw (e, f)
 
-  pub decoded_is : lines_ok n ≡ true → is_record n b at ≡ true → decoded n b at ≡ as_record (gate_at b at)
+  pub decoded_is : lines_ok n ≡ true → is_record n b at ≡ true → decoded n b at ≡ Ok (gate_at b at)
   unfolding decoded
   decoded_is e f = rw (e, f)
 
@@ -256,28 +257,23 @@ module _ (n : ℕ) (b : List ℕ) (at : ℕ) where
     pub is : is_record n b at ≡ true
     pub value : gate_at b at ≡ g
 
-  pub gives : (o t c : ℕ) → decoded n b at ≡ Record.Gate o t c → Gives (record { operator = o; target = t; controls = c })
+  pub gives : (g : Gate) → decoded n b at ≡ Ok g → Gives g
   unfolding decoded
-  gives o t c = go (lines_ok n) (is_record n b at) (gate_at b at) refl refl refl
+  gives g = go (lines_ok n) (is_record n b at) refl refl
     where
-      go : (x y : Bool) (g : Gate) → lines_ok n ≡ x → is_record n b at ≡ y → gate_at b at ≡ g
-          → cond x (cond y (as_record g) (Record.Refused 7 at)) (Record.Refused 1 0) ≡ Record.Gate o t c → Gives (record { operator = o; target = t; controls = c })
-      go true true g p q v e =
-          let eo : g.operator ≡ o = cc in
-          let et : g.target ≡ t = cc in
-          let ec : g.controls ≡ c = cc in
-          record { lines = p; is = q; value = v ∙ (λ i. record { operator = eo i; target = et i; controls = ec i }) }
-      go true false g p q v e = let z : ◌≡◌ {A = ℕ} 0 1 = cc in absurd (omega arith)
-      go false y g p q v e = let z : ◌≡◌ {A = ℕ} 0 1 = cc in absurd (omega arith)
+      go : (x y : Bool) → lines_ok n ≡ x → is_record n b at ≡ y → cond x (cond y (Ok (gate_at b at)) (Err (Refusal.NoGate at))) (Err Refusal.Lines) ≡ Ok g → Gives g
+      go true true p q e = record { lines = p; is = q; value = cc }
+      go true false p q e = absurd cc
+      go false y p q e = absurd cc
 
   pub gives_gate : (g : Gate) → Gives g → IsGate n g
   gives_gate g d = subst (λ (x : Gate). IsGate n x) d.value (gate_at_lem n b at (lines_are n d.lines).1 d.is)
 
-  pub gives_no : (k q : ℕ) → lines_ok n ≡ true → decoded n b at ≡ Record.Refused k q → is_record n b at ≡ false
+  pub gives_no : (r : Refusal) → lines_ok n ≡ true → decoded n b at ≡ Err r → is_record n b at ≡ false
   unfolding decoded
-  gives_no k q six = go (is_record n b at) refl
+  gives_no r six = go (is_record n b at) refl
     where
-      go : (y : Bool) → is_record n b at ≡ y → cond (lines_ok n) (cond y (as_record (gate_at b at)) (Record.Refused 7 at)) (Record.Refused 1 0) ≡ Record.Refused k q
+      go : (y : Bool) → is_record n b at ≡ y → cond (lines_ok n) (cond y (Ok (gate_at b at)) (Err (Refusal.NoGate at))) (Err Refusal.Lines) ≡ Err r
           → is_record n b at ≡ false
-      go true p e = let e' = rw six at e in let z : ◌≡◌ {A = ℕ} 0 1 = cc in absurd (omega arith)
+      go true p e = let e' = rw six at e in absurd cc
       go false p e = p

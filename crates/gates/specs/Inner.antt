@@ -1,4 +1,5 @@
 pub mod Decoding
 pub mod Firing
+pub mod Lines
 pub mod Quads
 pub mod Words

@@ -1,6 +1,7 @@
 // The controls of a gate, packed in base 4: one of them, and one replaced.
 ghost use Rattle.std.specs.Prelude.{◌≡◌, ◌^◌, ◌<◌};
 ghost use Rattle.digits.specs.Digits.{digit, put};
+ghost use Rattle.gates.specs.Inner.Lines.{LowestLine};
 
 // The control on line k.
 pub fn control_on(controls: u16, k: usize) -> u16
@@ -17,4 +18,13 @@ pub fn with_control(controls: u16, k: usize, v: u16) -> u16
 {
     let weight: u16 = 1 << (2 * k);
     controls - control_on(controls, k) * weight + v * weight
+}
+
+// The first line on which x, packed in base 4 too, has a digit other than 0.
+#[tactic(auto, using(crate::proofs::Lines::lowest_is))]
+pub fn find_line(x: u16) -> usize
+    requires { (0 < x) × (x < 4 ^ 6) }
+    ensures { LowestLine x result }
+{
+    (x.trailing_zeros() / 2) as usize
 }

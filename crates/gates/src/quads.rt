@@ -27,6 +27,7 @@ pub fn pattern_of(q: u16) -> u16
 
 // The lines after a gate: its operator on the target's digit if every control line holds its value. Of each two bits of `none` the lower is set where the
 // controls have 3, none; 0xfff ^ 3 * none then has both bits of each line that has a control, and only there the controls must be as the lines.
+// The gate comes in its three numbers, since running takes the decoded gate apart, as document 01 names the form.
 pub fn apply(operator: u8, target: u8, controls: u16, q: u16) -> u16
     requires { (target < 6) × (controls < 4 ^ 6) × Held q }
     ensures { (p : ℕ) → q ≡ quad p → result ≡ quad (applied (record { operator = operator; target = target; controls = controls }) p) }

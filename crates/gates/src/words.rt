@@ -1,4 +1,5 @@
-// A record as one number of 64 bits, its first byte lowest: all bytes are looked at at once.
+// A record as one number of 64 bits, its first byte lowest: all bytes are looked at at once. It stays a plain number: that it is a gate is known of
+// whole buffers, so that a struct with the fact would have to prove it at each read.
 ghost use Rattle.std.specs.Prelude.{◌≡◌, true, ℕ, ◌+◌, ◌*◌, ◌/◌, ◌%◌, ◌≤◌, ◌<◌, ◌^◌, length, get_or};
 ghost use Rattle.std.proofs.lemmas.List.Edits.{sets};
 ghost use Rattle.digits.specs.Digits.{pack};
@@ -9,46 +10,23 @@ ghost use Rattle.gates.specs.Inner.Words.{byte, Word, bytes_in, bare, is_word, g
 
 use super::Gate;
 
-fn wide(x: u8) -> u64
-    ensures { (result ≡ x) × (result < 256) }
-{
-    x as u64
-}
-
-// Four bytes from a place on.
-fn half_at(bytes: &[u8], at: usize) -> u64
-    requires { at + 4 ≤ length bytes.now }
-    ensures { (result < 256 ^ 4) × ((k : ℕ) → k < 4 → byte k result ≡ get_or bytes.now (at + k) 0) }
-{
-    let a = wide(bytes[at]);
-    let b = wide(bytes[at + 1]);
-    let c = wide(bytes[at + 2]);
-    let d = wide(bytes[at + 3]);
-    a + 256 * b + 0x1_0000 * c + 0x100_0000 * d
-}
-
 // The record at a place.
 pub fn word_at(bytes: &[u8], at: usize) -> u64
     requires { at + 8 ≤ length bytes.now }
     ensures { Word bytes.now at result }
 {
-    let part = &bytes[at..at + 8];
-    half_at(part, 0) + 0x1_0000_0000 * half_at(part, 4)
+    let b = &bytes[at..at + 8];
+    u64::from_le_bytes([b[0], b[1], b[2], b[3], b[4], b[5], b[6], b[7]])
 }
 
-// The word's 8 bytes, stored at a place.
+// The word's 8 bytes, stored at a place. Byte by byte, which becomes one store: a copied slice would first be looked at for an overlap with the room.
 pub fn store(w: u64, out: &mut [u8], at: usize)
     requires { at + 8 ≤ length out.old }
     ensures { out.new ≡ sets out.old at (bytes_in w) }
 {
-    out[at] = (w % 256) as u8;
-    out[at + 1] = (w / 256 % 256) as u8;
-    out[at + 2] = (w / 0x1_0000 % 256) as u8;
-    out[at + 3] = (w / 0x100_0000 % 256) as u8;
-    out[at + 4] = (w / 0x1_0000_0000 % 256) as u8;
-    out[at + 5] = (w / 0x100_0000_0000 % 256) as u8;
-    out[at + 6] = (w / 0x1_0000_0000_0000 % 256) as u8;
-    out[at + 7] = (w / 0x100_0000_0000_0000 % 256) as u8;
+    for (k, b) in w.to_le_bytes().iter().enumerate() {
+        out[at + k] = *b;
+    }
 }
 
 // The weight of byte k.
@@ -74,7 +52,7 @@ pub fn is_gate(lines: u8, w: u64) -> bool
     requires { lines_ok lines ≡ true }
     ensures { result ≡ is_word lines w }
 {
-    let n = lines as u64;
+    let n = u64::from(lines);
     let operator = w % 256;
     let target = w / 256 % 256;
     if operator < 1 {
@@ -141,10 +119,10 @@ fn three_bytes(x: u64) -> u64
 pub fn word_of(g: Gate) -> u64
     ensures { bytes_in result ≡ record_of g }
 {
-    let c = g.controls as u64;
+    let c = u64::from(g.controls);
     let low = three_bytes(c % 64);
     let high = three_bytes(c / 64 % 64);
-    g.operator as u64 + 256 * (g.target as u64 + 256 * (low + 0x100_0000 * high))
+    u64::from(g.operator) + 256 * (u64::from(g.target) + 256 * (low + 0x100_0000 * high))
 }
 
 // The word with another operator byte: that of the operator's inverse. C1 and C2 are 1 and 2, and 3 turns each into the other; of the five operators they

@@ -1,12 +1,6 @@
 -- How long a listing is: its head line piece by piece, and at most 31 bytes for each line. `listing_most` bounds the listing of any cascade.
 -- Assumes nothing.
-use mathlib.Core.Path.{◌≡◌, refl}
-use mathlib.Core.List.{List, [], ◌∷◌, ◌++◌, append_assoc}
-use Prim.Native.Nat.{ℕ, ◌+◌, ◌*◌, ◌≤◌}
-use native.Mathlib.Omega.{arith}
-use lib.Dec.{leb}
-use lib.ListN.{length, length-append}
-use borrow.Author.Tests.{leb-true}
+use Rattle.std.proofs.Common.{◌≡◌, refl, List, [], ◌∷◌, ◌++◌, append_assoc, ℕ, ◌+◌, ◌*◌, ◌≤◌, arith, leb, length, length-append, leb-true}
 use Rattle.ranges.specs.Ranges.{every}
 use Rattle.ranges.proofs.Tests.{every_below}
 use Rattle.gates.specs.declared.Gate.{Gate}

@@ -1,17 +1,12 @@
 -- The printed listing of a cascade, and the call.
 use Rattle.std.specs.Prelude.{ℕ, List, [], ◌∷◌, ◌++◌, ltb, length, get_or}
-use Rattle.card.specs.Card.{Answer, Answer.accepted, Answer.refused, refusing, on_lines, after, laid}
+use Rattle.card.specs.Card.{Answer, Answer.accepted, refusing, on_lines, after, laid}
 use Rattle.gates.specs.declared.Gate.{Gate}
 use Rattle.cascades.specs.Cascades.{gates_of}
 use Rattle.cascades.specs.Answers.{on_cascade}
 use Rattle.pricing.specs.Prices.{cascade_price}
 use Rattle.texts.specs.Texts.{ascii, decimal}
 use Rattle.texts.specs.GateTexts.{gate_texts}
-use Rattle.listings.specs.declared.Listed.{Listed}
-
-abbrev pub listed_as : Listed → Answer
-listed_as (Listed.Bytes m) = accepted (m ∷ [])
-listed_as (Listed.Refused k p) = refused k p
 
 -- the names of the operators 1 to 5
 unfoldable pub operator_name : ℕ → List ℕ

@@ -1,10 +1,5 @@
 -- Good lines: each is the line of one gate on n lines, which is the one that is guessed; and so it is told by what is guessed. Assumes nothing.
-use mathlib.Core.Path.{◌≡◌, sym, ap, ◌∙◌, subst}
-use mathlib.Core.Bool.{true, false, ◌&&◌}
-use mathlib.Core.Logic.{◌⊎◌}
-use mathlib.Core.List.{List}
-use Prim.Native.Nat.{ℕ, ◌+◌, ◌*◌, ◌/◌, ◌%◌, ◌^◌, ◌≤◌, ◌<◌}
-use native.Mathlib.Omega.{arith}
+use Rattle.std.proofs.Common.{◌≡◌, sym, ap, ◌∙◌, subst, true, false, ◌&&◌, ◌⊎◌, List, ℕ, ◌+◌, ◌*◌, ◌/◌, ◌%◌, ◌^◌, ◌≤◌, ◌<◌, arith}
 use Rattle.ranges.specs.Ranges.{some, first}
 use Rattle.ranges.proofs.Bools.{and_left, and_right, decide, clash}
 use Rattle.ranges.proofs.Counts.{lt_or_le}

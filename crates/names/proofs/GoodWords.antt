@@ -1,11 +1,5 @@
 -- A good line by the word of the gate that is guessed: its record is a cascade of one gate. Assumes nothing.
-use mathlib.Core.Path.{◌≡◌, sym, ap, ◌∙◌}
-use mathlib.Core.Bool.{true, false}
-use mathlib.Core.List.{List}
-use Prim.Native.Nat.{ℕ, zero, suc, ◌*◌, ◌^◌, ◌<◌}
-use native.Mathlib.Nat.{zero-add}
-use native.Mathlib.Omega.{arith}
-use lib.ListN.{get_or}
+use Rattle.std.proofs.Common.{◌≡◌, sym, ap, ◌∙◌, true, false, List, ℕ, zero, suc, ◌*◌, ◌^◌, ◌<◌, zero-add, arith, get_or}
 use Rattle.card.specs.Card.{lines_ok}
 use Rattle.card.proofs.Cards.{lines_are}
 use Rattle.gates.specs.Records.{is_record, record_of}

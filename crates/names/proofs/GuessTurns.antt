@@ -1,12 +1,6 @@
 -- One turn of the loop that reads a line's controls. Assumes nothing.
-use mathlib.Core.Path.{◌≡◌, refl, sym, ◌∙◌}
-use mathlib.Core.Bool.{Bool, true, false, cond}
-use mathlib.Core.List.{List}
-use Prim.Native.Nat.{ℕ, zero, suc, ◌+◌, ◌*◌, ◌%◌, ◌^◌, ◌≤◌, ◌<◌}
-use native.Mathlib.Nat.{pow-suc, pow-le-pow_right}
-use native.Mathlib.Numerals.{add-one}
-use native.Mathlib.Omega.{arith}
-use lib.ListN.{get_or}
+use Rattle.std.proofs.Common.{◌≡◌, refl, sym, ◌∙◌, Bool, true, false, cond, List, ℕ, zero, suc, ◌+◌, ◌*◌, ◌%◌, ◌^◌, ◌≤◌, ◌<◌, pow-suc, add-one, arith, get_or}
+use Rattle.std.proofs.Math.Nat.{pow-le-pow_right}
 use Rattle.digits.specs.Digits.{pack}
 use Rattle.digits.proofs.Packs.{pack_zero, pack_suc}
 use Rattle.names.specs.Inner.Guesses.{stands, behind_controls, control_in}

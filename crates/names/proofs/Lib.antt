@@ -2,6 +2,7 @@ pub mod TextLines
 pub mod Guesses
 pub mod GuessTurns
 pub mod SameTexts
+pub mod SplitLines
 pub mod GoodLines
 pub mod NamedTexts
 pub mod GoodWords

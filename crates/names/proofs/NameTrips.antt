@@ -1,10 +1,6 @@
 -- The two round trips. `names_written_read`: the text that was written of a cascade is accepted and read back to the same bytes. `names_read_written`:
 -- each accepted text is exactly what writing its cascade gives. Assumes nothing.
-use mathlib.Core.Path.{◌≡◌, sym, ap, subst, ◌∙◌}
-use mathlib.Core.List.{List, [], ◌∷◌}
-use Prim.Native.Nat.{ℕ, ◌*◌, ◌/◌, ◌≤◌}
-use lib.ListN.{length, take}
-use borrow.Author.Tests.{le-ltb}
+use Rattle.std.proofs.Common.{◌≡◌, sym, ap, subst, ◌∙◌, List, [], ◌∷◌, ℕ, ◌*◌, ◌/◌, ◌≤◌, length, take, le-ltb}
 use Rattle.card.specs.Card.{Answer.accepted, laid}
 use Rattle.card.proofs.Cards.{refusing_no, refusing_passed, after_accepted, laid_front}
 use Rattle.cascades.specs.Cascades.{records, gates_of, bytes_of}

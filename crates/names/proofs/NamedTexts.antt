@@ -1,28 +1,22 @@
 -- Whole texts: what was written is read back, what is accepted was written, and one turn of the loops over a text's lines. Assumes nothing.
-use mathlib.Core.Path.{◌≡◌, refl, sym, ap, ap₂, ◌∙◌}
-use mathlib.Core.Bool.{Bool, true, false, cond, not}
-use mathlib.Core.Logic.{◌⊎◌}
-use mathlib.Core.List.{List, [], ◌∷◌, ◌++◌, map, append_assoc}
-use Prim.Native.Nat.{ℕ, zero, suc, ◌+◌, ◌-◌, ◌*◌, ◌/◌, ◌≤◌, ◌<◌}
-use native.Mathlib.Nat.{zero-add}
-use native.Mathlib.Decide.{ℕ_discrete}
-use native.Mathlib.Omega.{arith}
-use lib.Dec.{ltb}
-use lib.ListN.{length, get_or, take, drop, length-map, drop_of_length-le}
-use lib.Seq.{sets, length-sets}
-use borrow.Author.Tests.{lt-ltb, le-ltb, ltb-false, not-false}
+use Rattle.std.proofs.Common.{◌≡◌, refl, sym, ap, ap₂, ◌∙◌, Bool, true, false, cond, not, ◌⊎◌, List, [], ◌∷◌, ◌++◌, map, append_assoc, append-nil, ℕ, zero, suc, ◌+◌, ◌-◌, ◌*◌, ◌/◌, ◌≤◌, ◌<◌, arith, ltb, length, get_or, take, length-take-le, take_all, lt-ltb, le-ltb, ltb-false}
+use Rattle.std.proofs.lemmas.List.{length-map, get_or_default, map_more}
+use Rattle.std.proofs.lemmas.List.Edits.{sets}
+use Rattle.std.proofs.lemmas.Bool.{not-false}
+use Rattle.std.proofs.Math.Nat.{sub-zero}
+use Rattle.std.proofs.Math.Decide.{ℕ_discrete}
+use Rattle.std.proofs.Math.Seq.{length-sets}
 use Rattle.ranges.specs.Ranges.{span, first}
 use Rattle.ranges.specs.Lists.{Each}
 use Rattle.ranges.proofs.Lists.{each_append}
 use Rattle.ranges.proofs.Bools.{decide}
-use Rattle.ranges.proofs.Searches.{first_suc}
+use Rattle.ranges.proofs.Searches.{first_suc, first_more, first_hit, first_ends}
 use Rattle.ranges.proofs.Stores.{sets_append}
 use Rattle.card.specs.Card.{Answer, Answer.accepted, Answer.refused, refusing, lines_ok, on_lines}
 use Rattle.card.proofs.Cards.{refusing_yes, refusing_no, refusing_passed, good_lines, lines_are, not_accepted}
 use Rattle.gates.specs.declared.Gate.{Gate}
 use Rattle.gates.specs.Gates.{control, IsGate}
 use Rattle.gates.specs.Records.{record_of}
-use Rattle.gates.proofs.Records.{length_record}
 use Rattle.gates.proofs.Operators.{five}
 use Rattle.cascades.specs.Cascades.{bytes_of, Cascade}
 use Rattle.cascades.proofs.Stored.{length_bytes}
@@ -30,7 +24,6 @@ use Rattle.texts.specs.Texts.{joined}
 use Rattle.texts.specs.GateTexts.{control_text, gate_text, gate_texts}
 use Rattle.names.specs.Names.{other_name, text_lines, good, gate_named, gates_named, first_wrong, on_text, read_names_answer}
 use Rattle.names.specs.Inner.Guesses.{guessed}
-use Rattle.names.specs.Inner.Cuts.{Ends}
 use Rattle.names.proofs.TextLines.{Plain, lines_nil, lines_joined, first_line}
 use Rattle.names.proofs.Guesses.{parts, control_none, control_some}
 use Rattle.names.proofs.GoodLines.{good_gate, gate_good, good_guessed, named_back}
@@ -182,38 +175,37 @@ accepted_text n t room m e =
 
 -- ---- a loop that looks at line after line
 
-pub record ReadingLines (n : ℕ) (t : List ℕ) (at i : ℕ) : Type 0 where
-  pub within : at ≤ length t
-  pub few : i ≤ at
-  pub wrong : i + first_wrong n (text_lines (drop at t)) ≡ first_wrong n (text_lines t)
-  pub count : i + length (text_lines (drop at t)) ≡ length (text_lines t)
+abbrev wrong : ℕ → List (List ℕ) → ℕ → Bool
+wrong n ls i = not (good n (get_or ls i []))
 
-pub reading_start : (n : ℕ) (t : List ℕ) → ReadingLines n t 0 0
-reading_start n t = record { within = omega arith; few = omega arith; wrong = rw zero-add; count = rw zero-add }
+-- the first i lines are good
+pub record Reading (n : ℕ) (ls : List (List ℕ)) (i : ℕ) : Type 0 where
+  pub within : i ≤ length ls
+  pub same : first (wrong n ls) i (length ls - i) ≡ first_wrong n ls
 
-module _ (n : ℕ) (t : List ℕ) (at i : ℕ) (c : ReadingLines n t at i) where
-  pub reading_next : (e : ℕ) → Ends t at e → good n (take (e - at) (drop at t)) ≡ true → ReadingLines n t e (i + 1)
-  reading_next e ends ok =
-      let w : first_wrong n (text_lines (drop at t)) ≡ suc (first_wrong n (text_lines (drop e t))) =
-      ap (first_wrong n) ends.cut ∙ wrong_later n (take (e - at) (drop at t)) (text_lines (drop e t)) ok in
-      let m : length (text_lines (drop at t)) ≡ suc (length (text_lines (drop e t))) = ap length ends.cut in
-      record { within = ends.within; few = omega (arith, c.few, ends.some); wrong = omega (arith, c.wrong, w); count = omega (arith, c.count, m) }
+pub reading_start : (n : ℕ) (ls : List (List ℕ)) → Reading n ls 0
+unfolding first_wrong
+reading_start n ls = record { within = omega arith; same = rw sub-zero }
 
-  pub reading_bad : (e : ℕ) (x : Answer) → Ends t at e → good n (take (e - at) (drop at t)) ≡ false → on_text n t x ≡ refused 12 i
+module _ (n : ℕ) (ls : List (List ℕ)) (i : ℕ) (c : Reading n ls i) where
+  module _ (line : List ℕ) (lt : i < length ls) (is : line ≡ get_or ls i line) where
+    line_is : line ≡ get_or ls i []
+    line_is = is ∙ get_or_default ls i line [] lt
+
+    pub reading_next : good n line ≡ true → Reading n ls (i + 1)
+    reading_next ok = record { within = omega arith; same = first_more (wrong n ls) (length ls) i lt (ap not (ap (good n) (sym line_is) ∙ ok)) ∙ c.same }
+
+    pub reading_bad : (t : List ℕ) (x : Answer) → ls ≡ text_lines t → good n line ≡ false → on_text n t x ≡ refused 12 i
+    unfolding on_text
+    reading_bad t x e bad =
+        let here : first_wrong n ls ≡ i = sym c.same ∙ first_hit (wrong n ls) (length ls) i lt (ap not (ap (good n) (sym line_is) ∙ bad)) in
+        rw (← e, here) (refusing_yes (ltb i (length ls)) 12 i x (lt-ltb i (length ls) lt))
+
+  pub reading_end : (t : List ℕ) (x : Answer) → ls ≡ text_lines t → i ≡ length ls → on_text n t x ≡ x
   unfolding on_text
-  reading_bad e x ends bad =
-      let w : first_wrong n (text_lines (drop at t)) ≡ 0 = ap (first_wrong n) ends.cut ∙ wrong_here n (take (e - at) (drop at t)) (text_lines (drop e t)) bad in
-      let m : length (text_lines (drop at t)) ≡ suc (length (text_lines (drop e t))) = ap length ends.cut in
-      let p : first_wrong n (text_lines t) ≡ i = omega (arith, c.wrong, w) in
-      rw p (refusing_yes (ltb i (length (text_lines t))) 12 i x (lt-ltb i (length (text_lines t)) (omega (arith, c.count, m))))
-
-  pub reading_end : (x : Answer) → length t ≤ at → (on_text n t x ≡ x) × (length (text_lines t) ≡ i)
-  unfolding on_text
-  reading_end x le =
-      let d : text_lines (drop at t) ≡ [] = ap text_lines (drop_of_length-le t le) ∙ lines_nil in
-      let m : length (text_lines (drop at t)) ≡ 0 = ap length d in
-      let p : length (text_lines t) ≡ i = omega (arith, c.count, m) in
-      (refusing_no (ltb (first_wrong n (text_lines t)) (length (text_lines t))) 12 (first_wrong n (text_lines t)) x (le-ltb (first_wrong n (text_lines t)) (length (text_lines t)) (omega (arith, c.wrong))), p)
+  reading_end t x e all =
+      let none : first_wrong n ls ≡ i = sym c.same ∙ first_ends (wrong n ls) (length ls) i (omega (arith, all)) in
+      rw (← e, none) (refusing_no (ltb i (length ls)) 12 i x (le-ltb i (length ls) (omega (arith, all))))
 
 -- what looking has found
 module _ (n : ℕ) (t : List ℕ) where
@@ -233,43 +225,44 @@ module _ (n : ℕ) (t : List ℕ) where
 
 -- ---- a loop that writes the gates of the lines
 
-pub record Laying (t room₀ : List ℕ) (at : ℕ) (room : List ℕ) (to : ℕ) : Type 0 where
-  pub within : at ≤ length t
-  pub long : length room ≡ length room₀
-  pub fits : to + 8 * length (text_lines (drop at t)) ≤ length room₀
-  pub same : sets room to (bytes_of (map guessed (text_lines (drop at t)))) ≡ sets room₀ 0 (bytes_of (map guessed (text_lines t)))
+bytes_snoc : (gs : List Gate) (g : Gate) → bytes_of (gs ++ (g ∷ [])) ≡ bytes_of gs ++ record_of g
+unfolding bytes_of
+bytes_snoc [] g = append-nil (record_of g)
+bytes_snoc (x ∷ gs) g = ap (λ (b : List ℕ). record_of x ++ b) (bytes_snoc gs g) ∙ sym (append_assoc (record_of x) (bytes_of gs) (record_of g))
 
-pub laying_start : (t room : List ℕ) → 8 * length (text_lines t) ≤ length room → Laying t room 0 room 0
-laying_start t room fits = record { within = omega arith; long = refl; fits = omega arith; same = refl }
+-- those of the first i lines are stored
+pub record Laying (ls : List (List ℕ)) (room₀ room : List ℕ) (to i : ℕ) : Type 0 where
+  pub fits : 8 * length ls ≤ length room₀
+  pub ahead : to ≡ 8 * i
+  pub stored : room ≡ sets room₀ 0 (bytes_of (map guessed (take i ls)))
 
-module _ (t room₀ : List ℕ) (at : ℕ) (room : List ℕ) (to : ℕ) (y : Laying t room₀ at room to) where
-  module _ (e : ℕ) (ends : Ends t at e) where
-    pub laying_fits : to + 8 ≤ length room
-    laying_fits =
-        let m : length (text_lines (drop at t)) ≡ suc (length (text_lines (drop e t))) = ap length ends.cut in
-        omega (arith, y.fits, y.long)
+pub laying_start : (ls : List (List ℕ)) (room : List ℕ) → 8 * length ls ≤ length room → Laying ls room room 0 0
+unfolding bytes_of
+laying_start ls room fits = record { fits = fits; ahead = refl; stored = refl }
 
-    pub laying_next : (now : List ℕ) → now ≡ sets room to (record_of (guessed (take (e - at) (drop at t)))) → Laying t room₀ e now (to + 8)
-    unfolding bytes_of
-    laying_next now is =
-        let m : length (text_lines (drop at t)) ≡ suc (length (text_lines (drop e t))) = ap length ends.cut in
-        let g : Gate = guessed (take (e - at) (drop at t)) in
-        let s = sets_append (record_of g) (bytes_of (map guessed (text_lines (drop e t)))) room to in
-        record {
-          within = ends.within;
-          long = ap length is ∙ length-sets room to (record_of g) ∙ y.long;
-          fits = omega (arith, y.fits);
-          same =
-              ap (λ (x : List ℕ). sets x (to + 8) (bytes_of (map guessed (text_lines (drop e t))))) is
-              ∙ ap (λ (x : ℕ). sets (sets room to (record_of g)) (to + x) (bytes_of (map guessed (text_lines (drop e t))))) (sym (length_record g))
-              ∙ sym s ∙ ap (λ (x : List (List ℕ)). sets room to (bytes_of (map guessed x))) (sym ends.cut) ∙ y.same;
-        }
+module _ (ls : List (List ℕ)) (room₀ room : List ℕ) (to i : ℕ) (y : Laying ls room₀ room to i) where
+  pub laying_long : length room ≡ length room₀
+  laying_long = ap length y.stored ∙ length-sets room₀ 0 (bytes_of (map guessed (take i ls)))
 
-  pub laying_end : length t ≤ at → room ≡ sets room₀ 0 (bytes_of (map guessed (text_lines t)))
-  unfolding bytes_of
-  laying_end le =
-      let d : text_lines (drop at t) ≡ [] = ap text_lines (drop_of_length-le t le) ∙ lines_nil in
-      sym (ap (λ (x : List (List ℕ)). sets room to (bytes_of (map guessed x))) d) ∙ y.same
+  pub laying_fits : i < length ls → to + 8 ≤ length room
+  laying_fits lt = omega (arith, y.ahead, y.fits, laying_long)
+
+  pub laying_next : (line now : List ℕ) → i < length ls → line ≡ get_or ls i line → now ≡ sets room to (record_of (guessed line)) → Laying ls room₀ now (to + 8) (i + 1)
+  laying_next line now lt is e =
+      let before : List Gate = map guessed (take i ls) in
+      let bytes : bytes_of (map guessed (take (i + 1) ls)) ≡ bytes_of before ++ record_of (guessed line) =
+      ap bytes_of (map_more guessed ls i line lt) ∙ rw (← is) (bytes_snoc before (guessed line)) in
+      let long : 0 + length (bytes_of before) ≡ to = omega (arith, length_bytes before, length-map (take i ls) guessed, length-take-le i ls (omega (arith, lt)), y.ahead) in
+      record {
+        fits = y.fits;
+        ahead = omega (arith, y.ahead);
+        stored = e ∙ rw (y.stored, ← long) (sym (sets_append (bytes_of before) (record_of (guessed line)) room₀ 0)) ∙ ap (sets room₀ 0) (sym bytes);
+      }
+
+  pub laying_end : i ≡ length ls → room ≡ sets room₀ 0 (bytes_of (map guessed ls))
+  laying_end all =
+      let whole : take i ls ≡ ls = take_all i ls (omega (arith, all)) in
+      y.stored ∙ ap (λ (l : List (List ℕ)). sets room₀ 0 (bytes_of (map guessed l))) whole
 
 -- what was written of an accepted text
 pub written_records : (n : ℕ) (t : List ℕ) (room m : ℕ) → read_names_answer n t room ≡ accepted (m ∷ [])

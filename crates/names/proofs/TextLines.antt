@@ -1,18 +1,9 @@
 -- The lines of a text: joined they are the text, and a part without newline and a newline is the first. Assumes nothing.
-use mathlib.Core.Path.{◌≡◌, refl, sym, ap, ◌∙◌}
-use mathlib.Core.Bool.{Bool, true, false, cond}
-use mathlib.Core.List.{List, [], ◌∷◌, ◌++◌}
-use Prim.Native.Nat.{ℕ, suc, ◌+◌, ◌-◌, ◌≤◌, ◌<◌}
-use native.Mathlib.Nat.{sub_self}
-use native.Mathlib.Omega.{arith}
-use lib.Dec.{eqb}
-use lib.ListN.{length, get_or, take, drop, drop_of_length-le, length-drop}
-use lib.Seq.{take-suc, drop-cons, get_or-drop, take_all}
-use borrow.Author.Tests.{ne_eqb, eq-eqb}
+use Rattle.std.proofs.Common.{◌≡◌, ℕ, suc, zero, ◌+◌, ◌≤◌, ◌<◌, min, Bool, true, false, cond, eqb, List, [], ◌∷◌, ◌++◌, length, get_or, refl, sym, ap, ◌∙◌, arith, eqb-true, ne_eqb, eq-eqb}
+use Rattle.std.proofs.lemmas.Bool.{true≢false}
 use Rattle.ranges.specs.Lists.{Each}
 use Rattle.texts.specs.Texts.{joined}
 use Rattle.names.specs.Names.{before_first, text_lines}
-use Rattle.names.specs.Inner.Cuts.{Ends}
 
 -- ---- the lines, joined
 
@@ -78,57 +69,31 @@ plain_lines (c ∷ p) t ok = lines_other c (p ++ t) ok.0 ∙ ap (before_first c)
 pub first_line : (p t : List ℕ) → Plain p → text_lines (p ++ (10 ∷ t)) ≡ (p ++ (10 ∷ [])) ∷ text_lines t
 first_line p t ok = plain_lines p (10 ∷ t) ok ∙ ap (before p) (lines_newline 10 t refl) ∙ before_line p (10 ∷ []) (text_lines t)
 
--- ---- a search for the end of the line that begins at place at: so far, up to place j, there is no newline
+-- ---- a text that is cut: what is cut off goes up to the first newline, which has place i, or to the end
 
-pub record Seeking (t : List ℕ) (at j : ℕ) : Type 0 where
-  pub from : at ≤ j
-  pub within : j ≤ length t
-  pub so_far : text_lines (drop at t) ≡ before (take (j - at) (drop at t)) (text_lines (drop j t))
+none_ten : (c : ℕ) → eqb c 10 ≡ false → c ≡ 10 → ⊥
+none_ten c e q = true≢false (sym (eq-eqb c 10 q) ∙ e)
 
-pub seeking_start : (t : List ℕ) (at : ℕ) → at ≤ length t → Seeking t at at
-unfolding before
-seeking_start t at le = record { from = omega arith; within = le; so_far = rw (sub_self at) }
+pub cut_line : (line more : List ℕ) (i : ℕ) → 0 < length (line ++ more) → length line ≡ min (i + 1) (length (line ++ more))
+    → ((k : ℕ) → k < i → eqb (get_or (line ++ more) k 0) 10 ≡ false) → (i < length (line ++ more) → eqb (get_or (line ++ more) i 0) 10 ≡ true)
+    → text_lines (line ++ more) ≡ line ∷ text_lines more
+cut_line [] more i some long none hit = absurd (omega (arith, some, long))
+cut_line (c ∷ []) more zero some long none hit = lines_newline c more (eqb-true c 10 (hit (omega arith)))
+cut_line (c ∷ d ∷ line) more zero some long none hit = absurd (omega (arith, long))
+cut_line (c ∷ []) [] (suc i) some long none hit =
+    lines_other c [] (none_ten c (none 0 (omega arith))) ∙ rw lines_nil (unfold before_first in refl)
+cut_line (c ∷ []) (d ∷ more) (suc i) some long none hit = absurd (omega (arith, long))
+cut_line (c ∷ d ∷ line) more (suc i) some long none hit =
+    let rest = cut_line (d ∷ line) more i (omega arith) (omega (arith, long)) (λ k lt. none (suc k) (omega (arith, lt))) (λ lt. hit (omega (arith, lt))) in
+    lines_other c (d ∷ line ++ more) (none_ten c (none 0 (omega arith))) ∙ rw rest (unfold before_first in refl)
 
-module _ (t : List ℕ) (at j : ℕ) (s : Seeking t at j) (lt : j < length t) where
-  step_take : take (suc j - at) (drop at t) ≡ take (j - at) (drop at t) ++ (get_or t j 0 ∷ [])
-  step_take =
-      let e : suc j - at ≡ suc (j - at) = omega (arith, s.from) in
-      let p : at + (j - at) ≡ j = omega (arith, s.from) in
-      let g : get_or (drop at t) (j - at) 0 ≡ get_or t j 0 = get_or-drop at t (j - at) 0 ∙ ap (λ (x : ℕ). get_or t x 0) p in
-      ap (λ (x : ℕ). take x (drop at t)) e ∙ take-suc (drop at t) (j - at) 0 (length_left t at j s.from lt) ∙ rw g
-    where
-      length_left : (t : List ℕ) (at j : ℕ) → at ≤ j → j < length t → j - at < length (drop at t)
-      length_left t at j le lt = rw (length-drop at t) (omega arith)
-
-  pub seeking_next : (get_or t j 0 ≡ 10 → ⊥) → Seeking t at (j + 1)
-  seeking_next ne =
-      let e : j + 1 ≡ suc j = omega arith in
-      rw e (record {
-        from = omega (arith, s.from);
-        within = omega arith;
-        so_far =
-            s.so_far ∙ rw (drop-cons t j 0 lt, lines_other (get_or t j 0) (drop (suc j) t) ne, step_take)
-            (sym (before_snoc (take (j - at) (drop at t)) (get_or t j 0) (text_lines (drop (suc j) t))));
-      })
-
-  pub seeking_found : get_or t j 0 ≡ 10 → Ends t at (j + 1)
-  seeking_found q =
-      let e : j + 1 ≡ suc j = omega arith in
-      rw e (record {
-        some = omega (arith, s.from);
-        within = omega arith;
-        cut =
-            s.so_far ∙ rw (drop-cons t j 0 lt, lines_newline (get_or t j 0) (drop (suc j) t) q, step_take)
-            (before_line (take (j - at) (drop at t)) (get_or t j 0 ∷ []) (text_lines (drop (suc j) t)));
-      })
-
-pub seeking_ends : (t : List ℕ) (at j : ℕ) → Seeking t at j → at < length t → length t ≤ j → Ends t at j
-seeking_ends t at j s lt le =
-    let e : j ≡ length t = omega (arith, s.within) in
-    record {
-      some = omega arith;
-      within = s.within;
-      cut =
-          s.so_far ∙ rw (drop_of_length-le t le, lines_nil, take_all (j - at) (drop at t) (rw (length-drop at t) (omega arith)), drop-cons t at 0 lt)
-          (before_nil (get_or t at 0) (drop (suc at) t));
-    }
+-- no text has more lines than bytes
+pub lines_few : (t : List ℕ) → length (text_lines t) ≤ length t
+unfolding text_lines before_first
+lines_few [] = omega arith
+lines_few (c ∷ t) = go (text_lines t) (lines_few t) (eqb c 10)
+  where
+    go : (ls : List (List ℕ)) → length ls ≤ length t → (b : Bool) → length (cond b ((c ∷ []) ∷ ls) (before_first c ls)) ≤ suc (length t)
+    go ls le true = omega (arith, le)
+    go [] le false = omega arith
+    go (l ∷ ls) le false = omega (arith, le)

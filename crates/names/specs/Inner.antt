@@ -1,2 +1,1 @@
 pub mod Guesses
-pub mod Cuts

@@ -2,32 +2,15 @@
 ghost use Rattle.std.specs.Prelude.{◌≡◌, true, [], ◌∷◌, map, ◌*◌, ◌≤◌, length};
 ghost use Rattle.std.proofs.lemmas.List.Edits.{sets};
 ghost use Rattle.card.specs.Card.{lines_ok, Answer.accepted};
-ghost use Rattle.cascades.specs.Answers.{counted_as};
+ghost use Rattle.card.specs.Answers.{number_as};
 ghost use Rattle.cascades.specs.Cascades.{bytes_of};
-ghost use Rattle.names.specs.Names.{text_lines, same_text, good, on_text};
+ghost use Rattle.names.specs.Names.{text_lines, good, on_text};
 ghost use Rattle.names.specs.Inner.Guesses.{guessed};
 
-use super::{cutting, guessing};
-use cascades::Counted;
+use super::guessing;
+use card::Refusal;
 use gates::words;
 use texts::laying;
-
-// Two texts are the same.
-fn same_text(a: &[u8], b: &[u8]) -> bool
-    ensures { result ≡ same_text a.now b.now }
-{
-    if a.len() != b.len() {
-        return false;
-    }
-    let mut k: usize = 0;
-    while k < a.len() {
-        if a[k] != b[k] {
-            return false;
-        }
-        k = k + 1;
-    }
-    true
-}
 
 // The line is that of a gate on so many lines: the one gate that it can be is one, and has this line.
 fn good_line(lines: u8, line: &[u8]) -> bool
@@ -38,31 +21,24 @@ fn good_line(lines: u8, line: &[u8]) -> bool
     if !words::is_gate(lines, w) {
         return false;
     }
-    let names = crate::NAMES;
-    let mut laid = [0u8; 48];
-    let size = laying::put_gate(&names, w, &mut laid);
-    same_text(&laid[..size], line)
+    let mut laid = [0; 48];
+    let size = laying::put_gate(&crate::NAMES, w, &mut laid);
+    &laid[..size] == line
 }
 
 // The number of lines, or 12 at the first that is not good.
-pub fn count_lines(lines: u8, text: &[u8]) -> Counted
+pub fn count_lines(lines: u8, text: &[u8]) -> Result<usize, Refusal>
     requires { lines_ok lines ≡ true }
-    ensures { counted_as result ≡ on_text lines text.now (accepted (length (text_lines text.now) ∷ [])) }
+    ensures { number_as result ≡ on_text lines text.now (accepted (length (text_lines text.now) ∷ [])) }
 {
-    let mut at: usize = 0;
-    let mut i: usize = 0;
-    while at < text.len() {
-        let end = cutting::line_end(text, at);
-        if !good_line(lines, &text[at..end]) {
-            return Counted::Refused {
-                number: 12,
-                place: i,
-            };
+    let mut count = 0;
+    for line in text.split_inclusive(|b| *b == b'\n') {
+        if !good_line(lines, line) {
+            return Err(Refusal::NoGateLine(count));
         }
-        at = end;
-        i = i + 1;
+        count += 1;
     }
-    Counted::Gates(i)
+    Ok(count)
 }
 
 // The gates of the lines, from the start of the room on.
@@ -70,12 +46,9 @@ pub fn write_records(text: &[u8], room: &mut [u8])
     requires { 8 * length (text_lines text.now) ≤ length room.old }
     ensures { room.new ≡ sets room.old 0 (bytes_of (map guessed (text_lines text.now))) }
 {
-    let mut at: usize = 0;
-    let mut to: usize = 0;
-    while at < text.len() {
-        let end = cutting::line_end(text, at);
-        gates::encode(guessing::guess_gate(&text[at..end]), room, to);
-        at = end;
-        to = to + 8;
+    let mut to = 0;
+    for line in text.split_inclusive(|b| *b == b'\n') {
+        gates::encode(guessing::guess_gate(line), room, to);
+        to += 8;
     }
 }

@@ -3,27 +3,20 @@ use mathlib.Core.Path.{◌≡◌, refl, sym, ap, ◌∙◌}
 use mathlib.Core.Bool.{Bool, true, false, cond, ◌||◌}
 use mathlib.Core.List.{List}
 use Prim.Native.Nat.{ℕ, zero, suc, ◌+◌, ◌*◌, ◌/◌, ◌%◌, ◌^◌, ◌≤◌, ◌<◌}
-use native.Mathlib.Nat.{zero-add}
 use native.Mathlib.Omega.{arith}
 use lib.Dec.{eqb}
 use lib.ListN.{get_or}
-use Rattle.ranges.specs.Ranges.{sum, span}
+use Rattle.ranges.specs.Ranges.{sum}
 use Rattle.ranges.proofs.Sums.{sum_ext}
-use Rattle.ranges.proofs.Spans.{span_at}
 use Rattle.digits.specs.Digits.{digit}
 use Rattle.digits.proofs.Digits.{digit_low, digit_up}
 use Rattle.gates.specs.declared.Gate.{Gate}
 use Rattle.gates.specs.Gates.{control, IsGate, control_count}
-use Rattle.pricing.specs.Prices.{base, others, plain_price, gate_price}
+use Rattle.pricing.specs.Prices.{others, plain_price, gate_price}
 use Rattle.pricing.specs.Inner.Rates.{points, points_of, points_price, extra}
 use Rattle.pricing.proofs.Costs.{base_five, others_le, controls_le}
 
--- with a table of the base prices, the price of p points
-pub looked_up : (xs : List ℕ) → xs ≡ span base 0 6 → (p : ℕ) → get_or xs (p % 6) 0 + 2 * (p / 6) ≡ points_price p
-unfolding points_price
-looked_up xs e p = rw (e, span_at base 0 6 (p % 6) 0 (omega arith), zero-add)
-
--- which is 85 at most
+-- the price of so many points is 85 at most
 pub points_price_le : (p : ℕ) → p < 36 → points_price p ≤ 85
 unfolding points_price
 points_price_le p lt = omega (arith, base_five (p % 6) (omega arith))
@@ -62,17 +55,14 @@ points_are v g =
 
 -- the tables that pricing looks up at the global value v with the set s
 pub record Rates (v s : ℕ) (points prices extras : List ℕ) : Type 0 where
-  pub halves : points ≡ span (points_of 3 v) 0 64
-  pub priced : prices ≡ span points_price 0 36
-  pub paid : extras ≡ span (extra s) 0 6
+  pub halves : (k : ℕ) → k < 64 → get_or points k 0 ≡ points_of 3 v k
+  pub priced : (k : ℕ) → k < 36 → get_or prices k 0 ≡ points_price k
+  pub paid : (k : ℕ) → k < 6 → get_or extras k 0 ≡ extra s k
 
 -- a gate has five controls at most, so that its points tell both numbers; looked up, they give its price
 module _ (n v s : ℕ) (g : Gate) (six : n ≤ 6) (ok : IsGate n g) (points prices extras : List ℕ) (r : Rates v s points prices extras) where
   both : get_or points (g.controls % 64) 0 + get_or points (g.controls / 64) 0 ≡ control_count g + 6 * others v g
-  both =
-      let low = span_at (points_of 3 v) 0 64 (g.controls % 64) 0 (omega arith) in
-      let high = span_at (points_of 3 v) 0 64 (g.controls / 64) 0 (omega (arith, ok.packed)) in
-      rw (r.halves, low, high, zero-add (g.controls % 64), zero-add (g.controls / 64)) (points_halves v g.controls ∙ points_are v g)
+  both = rw (r.halves (g.controls % 64) (omega arith), r.halves (g.controls / 64) (omega (arith, ok.packed))) (points_halves v g.controls ∙ points_are v g)
 
   pub points_lt : get_or points (g.controls % 64) 0 + get_or points (g.controls / 64) 0 < 36
   points_lt = omega (arith, both, controls_le n g six ok, others_le n v g six ok)
@@ -82,6 +72,4 @@ module _ (n v s : ℕ) (g : Gate) (six : n ≤ 6) (ok : IsGate n g) (points pric
   price_looked_up =
       let number : (control_count g + 6 * others v g) % 6 ≡ control_count g = omega (arith, controls_le n g six ok) in
       let other : (control_count g + 6 * others v g) / 6 ≡ others v g = omega (arith, controls_le n g six ok) in
-      let price = span_at points_price 0 36 (control_count g + 6 * others v g) 0 (omega (arith, both, points_lt)) in
-      let more = span_at (extra s) 0 6 g.operator 0 (omega (arith, ok.op_high)) in
-      rw (both, r.priced, price, r.paid, more, zero-add (control_count g + 6 * others v g), zero-add g.operator, number, other)
+      rw (both, r.priced (control_count g + 6 * others v g) (omega (arith, both, points_lt)), r.paid g.operator (omega (arith, ok.op_high)), number, other)

@@ -2,13 +2,12 @@
 use Rattle.std.specs.Prelude.{ℕ, zero, suc, ◌+◌, ◌*◌, cond, ◌||◌, List, [], ◌∷◌, eqb}
 use Rattle.ranges.specs.Ranges.{sum}
 use Rattle.ranges.specs.Lists.{total}
-use Rattle.card.specs.Card.{Answer, Answer.accepted, Answer.refused}
+use Rattle.card.specs.Card.{Answer, Answer.accepted}
 use Rattle.gates.specs.declared.Gate.{Gate}
 use Rattle.gates.specs.Gates.{control, control_count}
 use Rattle.cascades.specs.Cascades.{gates_of}
 use Rattle.cascades.specs.Answers.{on_cascade}
 use Rattle.boards.specs.Boards.{is_fitted, on_board}
-use Rattle.pricing.specs.declared.Priced.{Priced}
 
 -- the base price of k controls: 1, 1, 5, and from three on five more than twice the price with one fewer
 unfoldable pub base : ℕ → ℕ
@@ -34,11 +33,6 @@ unfoldable pub cascade_price : ℕ → ℕ → List Gate → ℕ
 cascade_price v s gs = total (gate_price v s) gs
 
 -- ---- the call
-
--- the document's number and values for each case of its answer
-abbrev pub priced_as : Priced → Answer
-priced_as (Priced.Cost c) = accepted (c ∷ [])
-priced_as (Priced.Refused k p) = refused k p
 
 -- 1 10 13 6 7
 unfoldable pub price_answer : ℕ → ℕ → ℕ → List ℕ → Answer

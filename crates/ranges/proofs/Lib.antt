@@ -12,3 +12,5 @@ pub mod Changes
 pub mod Parts
 pub mod Tallies
 pub mod Triples
+pub mod Places
+pub mod Arrays

@@ -1,2 +1,3 @@
 pub mod Ranges
 pub mod Lists
+pub mod Inner

@@ -14,16 +14,17 @@ use borrow.Author.Tests.{leb-true, le-leb, lt-leb}
 use Rattle.ranges.specs.Ranges.{span}
 use Rattle.ranges.proofs.Bools.{and_right, and_both}
 use Rattle.ranges.proofs.Tests.{every_ext}
+use Rattle.std.specs.Prelude.{Ok, Err, None}
 use Rattle.card.specs.Card.{lines_ok, Answer.accepted}
-use Rattle.gates.specs.declared.Record.{Record}
+use Rattle.card.specs.declared.Refusal.{Refusal}
+use Rattle.gates.specs.declared.Gate.{Gate}
 use Rattle.gates.specs.Records.{line_ok, lines_ok_at, is_record, gate_at}
 use Rattle.gates.specs.Inner.Decoding.{decoded}
 use Rattle.gates.proofs.Records.{reads, record_lines, gate_ext, decoded_is, gives, gives_no}
 use Rattle.cascades.specs.Cascades.{gate_in, gates_of}
 use Rattle.cascades.specs.Inner.Checked.{Whole}
-use Rattle.readers.specs.declared.Given.{Given}
 use Rattle.files.specs.Files.{opening_answer, trailer_at, distance, count, lines_in, start_of, records_of}
-use Rattle.readers.specs.Readers.{record_stands, as_given, given_at, place_after, turn_at, turn_of, moved_to, handed, Opened}
+use Rattle.readers.specs.Readers.{Given, record_stands, as_given, given_at, place_after, turn_at, turn_of, moved_to, handed, Opened}
 use Rattle.readers.specs.declared.Reader.{Reader}
 use Rattle.files.proofs.Frames.{Right, parts_end, trailer_fits, records_count}
 use Rattle.files.proofs.Openings.{opens_at}
@@ -37,26 +38,26 @@ module _ (f : List ℕ) (n at end : ℕ) where
   unfolding turn_at
   turn_of_lem g e = rw e
 
-  pub turn_lines : lines_ok n ≡ false → turn_at f n at end ≡ record { given = Given.Refused 1 0; at = at }
+  pub turn_lines : lines_ok n ≡ false → turn_at f n at end ≡ record { given = Err Refusal.Lines; at = at }
   unfolding given_at place_after
-  turn_lines e = turn_of_lem (Given.Refused 1 0) (rw e)
+  turn_lines e = turn_of_lem (Err Refusal.Lines) (rw e)
 
   module _ (six : lines_ok n ≡ true) where
-    pub turn_end : record_stands f at end ≡ false → turn_at f n at end ≡ record { given = Given.End; at = at }
+    pub turn_end : record_stands f at end ≡ false → turn_at f n at end ≡ record { given = Ok None; at = at }
     unfolding given_at place_after
-    turn_end e = turn_of_lem Given.End (rw (six, e))
+    turn_end e = turn_of_lem (Ok None) (rw (six, e))
 
     module _ (stands : record_stands f at end ≡ true) where
-      pub turn_not : (k p : ℕ) → decoded n f at ≡ Record.Refused k p → turn_at f n at end ≡ record { given = Given.Refused 7 at; at = at }
+      pub turn_not : (r : Refusal) → decoded n f at ≡ Err r → turn_at f n at end ≡ record { given = Err (Refusal.NoGate at); at = at }
       unfolding given_at place_after
-      turn_not k p e = turn_of_lem (Given.Refused 7 at) (rw (six, stands, gives_no n f at k p six e))
+      turn_not r e = turn_of_lem (Err (Refusal.NoGate at)) (rw (six, stands, gives_no n f at r six e))
 
-      pub turn_gate : (o t c : ℕ) → decoded n f at ≡ Record.Gate o t c → turn_at f n at end ≡ record { given = Given.Gate o t c; at = at + 8 }
+      pub turn_gate : (g : Gate) → decoded n f at ≡ Ok g → turn_at f n at end ≡ record { given = as_given g; at = at + 8 }
       unfolding given_at place_after
-      turn_gate o t c e = let h = gives n f at o t c e in turn_of_lem (Given.Gate o t c) (rw (six, stands, h.is, h.value))
+      turn_gate g e = let h = gives n f at g e in turn_of_lem (as_given g) (rw (six, stands, h.is, h.value))
 
     pub turn_hands : record_stands f at end ≡ true → is_record n f at ≡ true → turn_at f n at end ≡ record { given = as_given (gate_at f at); at = at + 8 }
-    turn_hands stands is = turn_gate stands _ _ _ (decoded_is n f at six is)
+    turn_hands stands is = turn_gate stands _ (decoded_is n f at six is)
 
 -- what k turns hand out, one after the other, each from the place that the one before it left
 unfoldable turns_from : List ℕ → ℕ → ℕ → ℕ → ℕ → List Given
@@ -109,17 +110,17 @@ module _ (f : List ℕ) (r : Right 8 1 f) (w : Whole (lines_in f) (records_of 8 
       ∙ rw (g, next)
 
   -- the turn at the end
-  turn_last : turn_at f (lines_in f) (trailer_at 8 f) (trailer_at 8 f) ≡ record { given = Given.End; at = trailer_at 8 f }
+  turn_last : turn_at f (lines_in f) (trailer_at 8 f) (trailer_at 8 f) ≡ record { given = Ok None; at = trailer_at 8 f }
   unfolding record_stands
   turn_last = turn_end f (lines_in f) (trailer_at 8 f) (trailer_at 8 f) w.lines (rw (lt-leb (trailer_at 8 f + 8) (trailer_at 8 f) (omega arith)))
 
-  end_stays : (k : ℕ) → turns_from f (lines_in f) (trailer_at 8 f) (trailer_at 8 f) k ≡ replicate k Given.End
+  end_stays : (k : ℕ) → turns_from f (lines_in f) (trailer_at 8 f) (trailer_at 8 f) k ≡ replicate k (Ok None)
   unfolding turns_from
   end_stays zero = refl
   end_stays (suc k) = rw (turn_last, end_stays k)
 
   hands_on : (m i k : ℕ) → i + m ≡ count f
-      → turns_from f (lines_in f) (start_of 8 f + 8 * i) (trailer_at 8 f) (m + k) ≡ map as_given (span (gate_in (records_of 8 f)) i m) ++ replicate k Given.End
+      → turns_from f (lines_in f) (start_of 8 f + 8 * i) (trailer_at 8 f) (m + k) ≡ map as_given (span (gate_in (records_of 8 f)) i m) ++ replicate k (Ok None)
   unfolding turns_from span
   hands_on zero i k e =
       let last : start_of 8 f + 8 * i ≡ trailer_at 8 f = omega (arith, parts_end 8 1 f r, r.eight) in
@@ -129,7 +130,7 @@ module _ (f : List ℕ) (r : Right 8 1 f) (w : Whole (lines_in f) (records_of 8 
 
 -- over a file that opens: its gates, and then the end
 turns_gates : (f : List ℕ) (n at end : ℕ) → opening_answer f ≡ accepted (n ∷ at ∷ end ∷ []) → (k : ℕ)
-    → turns_from f n at end (count f + k) ≡ map as_given (gates_of (records_of 8 f)) ++ replicate k Given.End
+    → turns_from f n at end (count f + k) ≡ map as_given (gates_of (records_of 8 f)) ++ replicate k (Ok None)
 unfolding gates_of
 turns_gates f n at end e k =
     let o = opens_at 8 1 f n at end e in
@@ -138,7 +139,7 @@ turns_gates f n at end e k =
 
 -- a reader over a file that opens, asked again and again: the file's gates in order, and then the end for ever
 pub reader_gates : (f : Bor (List ℕ)) (r : Reader) (vs : List ℕ) → Opened f r → opening_answer f.now ≡ accepted vs → (k : ℕ)
-    → handed r (count f.now + k) ≡ map as_given (gates_of (records_of 8 f.now)) ++ replicate k Given.End
+    → handed r (count f.now + k) ≡ map as_given (gates_of (records_of 8 f.now)) ++ replicate k (Ok None)
 reader_gates f r vs o e k =
     let h = o.found vs e in
     handed_turns (count f.now + k) r

@@ -1,21 +1,27 @@
 -- The reader: what it hands out at a place, how it moves, and what opening a file gives.
-use Rattle.std.specs.Prelude.{ℕ, zero, suc, ◌+◌, ◌≡◌, Bool, cond, ◌&&◌, List, [], ◌∷◌, leb, length}
+use Rattle.std.specs.Prelude.{ℕ, zero, suc, ◌+◌, ◌≡◌, Bool, cond, ◌&&◌, List, [], ◌∷◌, leb, length, Result, Ok, Err, Option, Some, None}
 use Rattle.std.specs.Borrow.{Bor}
 use Rattle.card.specs.Card.{Answer, Answer.accepted, Answer.refused, lines_ok}
+use Rattle.card.specs.declared.Refusal.{Refusal}
+use Rattle.card.specs.Answers.{answer_as}
 use Rattle.gates.specs.Records.{is_record, gate_at}
 use Rattle.gates.specs.declared.Gate.{Gate}
 use Rattle.files.specs.Files.{opening_answer}
-use Rattle.readers.specs.declared.Given.{Given}
 use Rattle.readers.specs.declared.Turn.{Turn}
 use Rattle.readers.specs.declared.Reader.{Reader}
 
--- ---- the document's number and values for each case of an answer
+-- ---- what is handed out: a gate, none at the end, or a refusal
 
--- 1 and the gate's operator, target and packed controls; 0 at the end
+abbrev pub Given : Type 0
+Given = Result (Option Gate) Refusal
+
+-- the document's values: 1 and the gate's operator, target and packed controls; 0 at the end
+abbrev pub given_values : Option Gate → List ℕ
+given_values (Some g) = 1 ∷ g.operator ∷ g.target ∷ g.controls ∷ []
+given_values None = 0 ∷ []
+
 abbrev pub given_as : Given → Answer
-given_as (Given.Gate o t c) = accepted (1 ∷ o ∷ t ∷ c ∷ [])
-given_as Given.End = accepted (0 ∷ [])
-given_as (Given.Refused k p) = refused k p
+given_as r = answer_as given_values r
 
 -- ---- the next gate of a reader at place at, on n lines, whose records end at end
 
@@ -24,18 +30,18 @@ unfoldable pub record_stands : List ℕ → ℕ → ℕ → Bool
 record_stands f at end = leb (at + 8) end && leb (at + 8) (length f)
 
 abbrev pub as_given : Gate → Given
-as_given g = Given.Gate g.operator g.target g.controls
+as_given g = Ok (Some g)
 
 -- 1; the end; 7 with the place; else the gate
 unfoldable pub given_at : List ℕ → ℕ → ℕ → ℕ → Given
 given_at f n at end =
-    cond (lines_ok n) (cond (record_stands f at end) (cond (is_record n f at) (as_given (gate_at f at)) (Given.Refused 7 at)) Given.End) (Given.Refused 1 0)
+    cond (lines_ok n) (cond (record_stands f at end) (cond (is_record n f at) (as_given (gate_at f at)) (Err (Refusal.NoGate at))) (Ok None)) (Err Refusal.Lines)
 
 -- the place afterwards: behind the gate that was handed out, and else the same
 unfoldable pub place_after : Given → ℕ → ℕ
-place_after (Given.Gate o t c) at = at + 8
-place_after Given.End at = at
-place_after (Given.Refused k p) at = at
+place_after (Ok (Some g)) at = at + 8
+place_after (Ok None) at = at
+place_after (Err e) at = at
 
 unfoldable pub turn_at : List ℕ → ℕ → ℕ → ℕ → Turn
 turn_at f n at end = record { given = given_at f n at end; at = place_after (given_at f n at end) at }

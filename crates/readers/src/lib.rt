@@ -4,25 +4,14 @@
 ghost use Rattle.std.specs.Prelude.{◌≡◌};
 ghost use Rattle.readers.specs.Readers.{given_as, turn_at, turn_of, moved_to, Opened};
 
-mod held;
 mod standing;
 
-use gates::Record;
+use card::Refusal;
+use files::Extent;
+use gates::Gate;
 
-// What a reader hands out.
-#[derive(Clone, Copy)]
-pub enum Given {
-    Gate {
-        operator: u8,
-        target: u8,
-        controls: u16,
-    },
-    End,
-    Refused {
-        number: u8,
-        place: usize,
-    },
-}
+// What a reader hands out: a gate, or none at the end.
+pub type Given = Result<Option<Gate>, Refusal>;
 
 // What a reader hands out, and its place afterwards.
 #[derive(Clone, Copy)]
@@ -45,48 +34,42 @@ pub fn turn_at(file: &[u8], lines: u8, at: usize, end: usize) -> Turn
     ensures { result ≡ turn_at file.now lines at end }
 {
     if !card::lines_ok(lines) {
-        let given = Given::Refused {
-            number: 1,
-            place: 0,
-        };
+        let given = Err(Refusal::Lines);
         return Turn { given, at };
     }
     if !standing::record_stands(file, at, end) {
-        let given = Given::End;
+        let given = Ok(None);
         return Turn { given, at };
     }
-    let Record::Gate {
-        operator,
-        target,
-        controls,
-    } = gates::decode(lines, file, at)
-    else {
-        let given = Given::Refused {
-            number: 7,
-            place: at,
-        };
-        return Turn { given, at };
-    };
-    let given = Given::Gate {
-        operator,
-        target,
-        controls,
-    };
-    let behind = at + 8;
-    Turn { given, at: behind }
+    match gates::decode(lines, file, at) {
+        Ok(gate) => Turn {
+            given: Ok(Some(gate)),
+            at: at + 8,
+        },
+        Err(_) => Turn {
+            given: Err(Refusal::NoGate(at)),
+            at,
+        },
+    }
 }
 
 // A reader over a file, at its first record; where opening refuses, one of no lines over the empty part at the file's start.
 pub fn open<'a>(file: &'a [u8]) -> Reader<'a>
     ensures { Opened file.entry result }
 {
-    let b = held::find_bounds(file);
-    let part = held::held_part(file, b.lines);
-    Reader {
-        file: part,
-        end: b.end,
-        at: b.at,
-        lines: b.lines,
+    match files::opening(file) {
+        Ok(Extent { lines, at, end }) => Reader {
+            file,
+            end,
+            at,
+            lines,
+        },
+        Err(_) => Reader {
+            file: &file[..0],
+            end: 0,
+            at: 0,
+            lines: 0,
+        },
     }
 }
 

@@ -1,16 +1,10 @@
 -- The lent buffer on the way: it holds the gates of a list, through a gate replaced and the gaps closed, and at the end its bytes are theirs.
 -- A record is looked at byte by byte; that it reads as its gate rests on its being what storing that gate would leave (`standing`). Assumes nothing.
-use mathlib.Core.Path.{◌≡◌, refl, sym, ap, ◌∙◌}
-use mathlib.Core.Logic.{⊎_elim}
-use mathlib.Core.Bool.{true, false}
-use mathlib.Core.List.{List, [], ◌∷◌, ◌++◌}
-use Prim.Native.Nat.{ℕ, zero, suc, ◌+◌, ◌*◌, ◌/◌, ◌%◌, ◌<◌, ◌≤◌}
-use native.Mathlib.Nat.{zero-add}
+use Rattle.std.proofs.Common.{◌≡◌, refl, sym, ap, ◌∙◌, ⊎_elim, true, false, List, [], ◌∷◌, ◌++◌, ℕ, zero, suc, ◌+◌, ◌*◌, ◌/◌, ◌%◌, ◌<◌, ◌≤◌, zero-add, arith, length, get_or, set, take, length-set, length-take-le, get_or-take, get_or-set_same, get_or-set_other, get_or-append-add, ext_get_or, eqb-true}
 use native.Mathlib.Decide.{ℕ_discrete}
-use native.Mathlib.Omega.{arith}
-use lib.ListN.{length, get_or, set, take, length-set, get_or-append}
-use lib.Seq.{sets, length-sets, length-take-le, get_or-take, get_or-set_same, get_or-set_other, get_or-append-add, ext_get_or}
-use borrow.Author.Tests.{eqb-true, eqb-false}
+use Rattle.std.proofs.Math.ListN.{get_or-append}
+use Rattle.std.proofs.Math.Seq.{sets, length-sets}
+use borrow.Author.Tests.{eqb-false}
 use Rattle.ranges.specs.Lists.{Each}
 use Rattle.ranges.proofs.Bools.{decide, clash}
 use Rattle.ranges.proofs.Lists.{each_at, each_imp}

@@ -1,20 +1,10 @@
 -- What a number says of its row stays true: where the row is found clear further on, where it is found to have no pair, and where a gate is replaced.
 -- Assumes nothing.
-use mathlib.Core.Path.{◌≡◌, sym, subst}
-use mathlib.Core.Logic.{⊎_elim}
-use mathlib.Core.Bool.{Bool, true, false, cond}
-use mathlib.Core.List.{List, ◌++◌}
-use Prim.Native.Nat.{ℕ, ◌+◌, ◌%◌, ◌<◌, ◌≤◌}
+use Rattle.std.proofs.Common.{◌≡◌, sym, subst, ⊎_elim, Bool, true, false, cond, List, ℕ, ◌+◌, ◌%◌, ◌<◌, ◌≤◌, arith, length, get_or, set, length-set, get_or-set_same, get_or-set_other}
 use native.Mathlib.Decide.{ℕ_discrete}
-use native.Mathlib.Omega.{arith}
-use lib.ListN.{length, set, drop, length-set, length-append, length-drop}
-use lib.Seq.{get_or-set_same, get_or-set_other}
-use Rattle.ranges.specs.Ranges.{span}
 use Rattle.ranges.specs.Lists.{Each}
 use Rattle.ranges.proofs.Bools.{decide, clash}
 use Rattle.ranges.proofs.Lists.{each_at}
-use Rattle.ranges.proofs.Spans.{length_span}
-use Rattle.ranges.proofs.Changes.{at_set, filled_at}
 use Rattle.gates.specs.declared.Gate.{Gate}
 use Rattle.rules.specs.Places.{may_change}
 use Rattle.rules.specs.Rules.{fits}
@@ -26,22 +16,6 @@ use Rattle.remembering.specs.Inner.Rows.{Quiet, Clear, Stops, settled_mark, RowK
 
 pub clear_start : (gs : List Gate) (r : ℕ) → r < length gs → Clear gs r (r + 1)
 clear_start gs r lt = record { past = omega arith; inside = omega arith; quiet = λ l a b. absurd (omega arith) }
-
-pub clear_next : (gs : List Gate) (r c : ℕ) → Clear gs r c → c < length gs → fits (gate gs r) (gate gs c) ≡ false → may_change (gate gs r) (gate gs c) ≡ true
-    → Clear gs r (c + 1)
-clear_next gs r c w lt unfit may =
-    record {
-      past = omega (arith, w.past);
-      inside = omega arith;
-      quiet = λ l a b. here l a b (ℕ_discrete l c);
-    }
-  where
-    here : (l : ℕ) → r < l → l < c + 1 → Dec (l ≡ c) → Quiet (gate gs r) (gate gs l)
-    here l a b (yes e) = rw e (record { unfit = unfit; pass = may })
-    here l a b (no ne) = w.quiet l a (omega arith)
-
-clear_less : (gs : List Gate) (r c d : ℕ) → Clear gs r c → r < d → d ≤ c → Clear gs r d
-clear_less gs r c d w lt le = record { past = lt; inside = omega (arith, w.inside); quiet = λ l a b. w.quiet l a (omega arith) }
 
 -- ---- gate p becomes g
 
@@ -81,23 +55,12 @@ module _ (gs : List Gate) (p : ℕ) (g : Gate) (r n : ℕ) (lt : p < length gs) 
       }
 
   module _ (before : r < p) (small : p < settled_mark) where
-    -- it does not reach p; it does, and the pair is quiet; it does, and is clear up to p then
+    -- it does not reach p; it does, and the pair is quiet
     pub again_near : n % settled_mark < p → RowKnown (set gs p g) r n
     again_near l = row_stays (λ e q. omega arith) (λ e a b. absurd (omega arith))
 
     pub again_quiet : p < n % settled_mark → fits (gate gs r) g ≡ false → may_change (gate gs r) g ≡ true → RowKnown (set gs p g) r n
     again_quiet l unfit may = row_stays (λ e q. omega arith) (λ e a b. record { unfit = unfit; pass = may })
-
-    pub again_cut : p ≤ n % settled_mark → RowKnown (set gs p g) r p
-    again_cut l =
-        let same : p % settled_mark ≡ p = omega arith in
-        record {
-          clear = λ e.
-              rw same
-              (clear_set gs p g r p lt ne (clear_less gs r (n % settled_mark) p (w.clear (was false e)) before l) (λ a b. absurd (omega arith)));
-          stops = λ e q. absurd (omega arith);
-          gone = λ e. absurd (omega (arith, w.gone (was true e)));
-        }
 
 -- the row behind gate p keeps its number
 pub row_behind : (gs : List Gate) (p : ℕ) (g : Gate) (r n : ℕ) → p < length gs → p < r → RowKnown gs r n → RowKnown (set gs p g) r n
@@ -127,12 +90,12 @@ row_own gs p g lt small =
 
 -- ---- all rows
 
-pub known_start : (gs : List Gate) (m : ℕ) (s : List ℕ) → length gs ≡ m → m ≤ 8000 → m + 16 ≤ length s → Each (λ g. is_gap g ≡ false) gs
-    → RowsKnown gs (span (λ r. r + 1) 0 m ++ drop m s)
-known_start gs m s e most le real =
+pub known_start : (gs : List Gate) (m : ℕ) (s : List ℕ) → length gs ≡ m → m ≤ 8000 → m + 16 ≤ length s → ((r : ℕ) → r < m → get_or s r 0 ≡ r + 1) → Each (λ g. is_gap g ≡ false) gs
+    → RowsKnown gs s
+known_start gs m s e most le starts real =
     record {
-      room = omega (arith, length-append (span (λ r. r + 1) 0 m) (drop m s), length_span (λ r. r + 1) 0 m, length-drop m s);
-      rows = λ r l. subst (RowKnown gs r) (sym (filled_at (λ r. r + 1) s m r 0 (omega arith))) (row r l);
+      room = omega arith;
+      rows = λ r l. subst (RowKnown gs r) (sym (starts r (omega arith))) (row r l);
     }
   where
     row : (r : ℕ) → r < length gs → RowKnown gs r (r + 1)
@@ -148,18 +111,3 @@ known_start gs m s e most le real =
 pub row_real : (gs : List Gate) (r n : ℕ) → RowKnown gs r n → n < settled_mark → is_gap (gate gs r) ≡ false
 row_real gs r n w lt =
     ⊎_elim (λ (e : is_gap (gate gs r) ≡ true). absurd (omega (arith, w.gone e))) (λ (e : is_gap (gate gs r) ≡ false). e) (decide (is_gap (gate gs r)))
-
-pub row_clear : (gs : List Gate) (r n : ℕ) → RowKnown gs r n → n < settled_mark → Clear gs r n
-row_clear gs r n w lt = let e : n % settled_mark ≡ n = omega arith in rw e at (w.clear (row_real gs r n w lt))
-
--- row x stops at c
-pub known_stops : (gs : List Gate) (s : List ℕ) (x c : ℕ) → x < length gs → length gs ≤ 8000 → RowsKnown gs s → is_gap (gate gs x) ≡ false → Clear gs x c → Stops gs x c
-    → RowsKnown gs (set s x (c + settled_mark))
-known_stops gs s x c lt most k real w stop =
-    let same : (c + settled_mark) % settled_mark ≡ c = omega (arith, w.inside) in
-    record {
-      room = rw (length-set s x (c + settled_mark)) k.room;
-      rows = λ r l.
-          at_set (RowKnown gs) s x (c + settled_mark) 0 (omega (arith, k.room))
-          (record { clear = λ q. rw same w; stops = λ q a. rw same stop; gone = λ q. clash (is_gap (gate gs x)) q real }) r (λ ne. k.rows r l);
-    }

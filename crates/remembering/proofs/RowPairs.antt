@@ -1,13 +1,5 @@
 -- What a row that is clear up to a place says of its first pair. Assumes nothing.
-use mathlib.Core.Path.{◌≡◌, refl}
-use mathlib.Core.Logic.{⊎_elim}
-use mathlib.Core.Bool.{Bool, true, false, ◌&&◌}
-use mathlib.Core.List.{List}
-use Prim.Native.Nat.{ℕ, ◌+◌, ◌-◌, ◌<◌, ◌≤◌}
-use native.Mathlib.Omega.{arith}
-use lib.Dec.{ltb}
-use lib.ListN.{length}
-use borrow.Author.Tests.{ltb-true, lt-ltb}
+use Rattle.std.proofs.Common.{◌≡◌, refl, ⊎_elim, Bool, true, false, ◌&&◌, List, ℕ, ◌+◌, ◌-◌, ◌<◌, ◌≤◌, arith, ltb, length, ltb-true, lt-ltb}
 use Rattle.ranges.proofs.Bools.{and_both, decide, clash}
 use Rattle.ranges.proofs.Counts.{here_or_later, by_place}
 use Rattle.ranges.proofs.Tests.{every_at, every_make}

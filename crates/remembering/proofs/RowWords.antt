@@ -1,10 +1,6 @@
 -- The number that a record is, where a gate or a gap stands: moved to another place, and as the number of its gate. Assumes nothing.
-use mathlib.Core.Path.{◌≡◌, sym, ap, ◌∙◌}
-use mathlib.Core.List.{List}
-use Prim.Native.Nat.{ℕ, zero, suc, ◌+◌, ◌*◌, ◌^◌, ◌<◌, ◌≤◌}
-use native.Mathlib.Omega.{arith}
-use lib.ListN.{length, get_or}
-use lib.Seq.{sets, length-sets}
+use Rattle.std.proofs.Common.{◌≡◌, sym, ap, ◌∙◌, List, ℕ, zero, suc, ◌+◌, ◌*◌, ◌^◌, ◌<◌, ◌≤◌, arith, length, get_or}
+use Rattle.std.proofs.Math.Seq.{sets, length-sets}
 use Rattle.ranges.proofs.Stores.{get_d_sets, get_d_sets_below, get_d_sets_above}
 use Rattle.digits.specs.Digits.{pack}
 use Rattle.digits.proofs.Digits.{digit_zero, digit_lt}

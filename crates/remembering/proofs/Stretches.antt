@@ -1,18 +1,10 @@
 -- Views: a gate that meets nothing of the views and the kinds of many gates is quiet with each of them (`passed_next`), and what is known of
 -- stretches stays true where a gate is replaced. What is finite is computed. Assumes nothing.
-use mathlib.Core.Path.{◌≡◌, refl, sym, ap, ap₂, ◌∙◌}
-use mathlib.Core.Logic.{⊎_elim}
-use mathlib.Core.Bool.{Bool, true, false, cond, not, ◌&&◌}
-use mathlib.Core.List.{List}
-use Prim.Native.Nat.{ℕ, zero, suc, ◌+◌, ◌-◌, ◌*◌, ◌/◌, ◌%◌, ◌^◌, ◌<◌, ◌≤◌}
-use native.Mathlib.Nat.{le_trans, mul-le-mul_left, pow-le-pow_right}
+use Rattle.std.proofs.Common.{◌≡◌, refl, sym, ap, ap₂, ◌∙◌, ⊎_elim, Bool, true, false, cond, not, ◌&&◌, List, ℕ, zero, suc, ◌+◌, ◌-◌, ◌*◌, ◌/◌, ◌%◌, ◌^◌, ◌<◌, ◌≤◌, le_trans, mul-le-mul_left, arith, bit_and, bit_or, eqb, ltb, length, set, length-set, get_or-set_same, get_or-set_other, eqb-true, eq-eqb, ne_eqb, ltb-true}
+use native.Mathlib.Nat.{pow-le-pow_right}
 use native.Mathlib.Decide.{ℕ_discrete}
-use native.Mathlib.Omega.{arith}
-use lib.Bits.{bit_and, bit_or, and_comm, and_self, and_mask}
-use lib.Dec.{eqb, ltb}
-use lib.ListN.{length, get_or, set, replicate, length-set, get_or-replicate}
-use lib.Seq.{get_or-set_same, get_or-set_other}
-use borrow.Author.Tests.{eqb-true, eq-eqb, ne_eqb, ltb-true, not-true}
+use lib.Bits.{and_comm, and_self, and_mask}
+use borrow.Author.Tests.{not-true}
 use Rattle.ranges.specs.Ranges.{every, sum}
 use Rattle.ranges.specs.Lists.{Each}
 use Rattle.ranges.proofs.Bools.{decide, clash}
@@ -37,7 +29,7 @@ use Rattle.rules.proofs.FittingPairs.{type_swap, one_passes, lines_on, fits_pass
 use Rattle.remembering.specs.declared.views.Sets.{Sets}
 use Rattle.remembering.specs.Inner.Buffers.{is_gap, GateOrGap}
 use Rattle.remembering.specs.Inner.Rows.{Quiet, Clear}
-use Rattle.remembering.specs.Inner.Views.{type_of, upsetters, shunned, own_part, view_of, other_part, against_of, six_bits, kind_of, all_kinds, SeenAs, StretchPassed, StretchesMarked}
+use Rattle.remembering.specs.Inner.Views.{type_of, upsetters, shunned, own_part, view_of, other_part, against_of, six_bits, kind_of, all_kinds, SeenAs, MeetsNone, StretchPassed, mark, StretchesMarked}
 use Rattle.remembering.proofs.Gaps.{gate_real, gap_passed, gap_unfit}
 
 -- ---- the bytes of a view
@@ -61,7 +53,7 @@ type_lt o = go (is_c o) (eqb o 3) (eqb o 4)
     go false false true = omega arith
     go false false false = omega arith
 
-own_lt : (o : ℕ) → own_part o < 256
+pub own_lt : (o : ℕ) → own_part o < 256
 unfolding own_part
 own_lt o = go (eqb o 0) (type_lt o)
   where
@@ -69,7 +61,7 @@ own_lt o = go (eqb o 0) (type_lt o)
     go true lt = omega arith
     go false lt = omega arith
 
-other_lt : (o : ℕ) → other_part o < 256
+pub other_lt : (o : ℕ) → other_part o < 256
 unfolding other_part
 other_lt o = omega (arith, own_lt o)
 
@@ -243,86 +235,64 @@ module _ (g h : Gate) (okg : IsGate 6 g) (apart : bit_and (view_of h) (against_o
 
 -- ---- stretches
 
-pub passed_start : (gs : List Gate) (x : ℕ) → StretchPassed gs x x 0 0
-passed_start gs x = record { quiet = λ g ok a b l c d. absurd (omega arith) }
-
-pub passed_next : (gs : List Gate) (x e u v : ℕ) → Each GateOrGap gs → e < length gs → StretchPassed gs x e u v → StretchPassed gs x (e + 1) (bit_or u (view_of (gate gs e))) (bit_or v (kind_of (gate gs e)))
-passed_next gs x e u v ok lt w = record { quiet = λ g okg a b l c d. go g okg (parts (against_of g) u (view_of (gate gs e)) a) (parts (kind_of g) v (kind_of (gate gs e)) b) l c d (ℕ_discrete l e) }
+pub passed_next : (gs : List Gate) (x e : ℕ) (here : Sets) → Each GateOrGap gs → e < length gs → StretchPassed gs x e here
+    → StretchPassed gs x (e + 1) (record { types = bit_or here.types (view_of (gate gs e)); kinds = bit_or here.kinds (kind_of (gate gs e)) })
+passed_next gs x e here ok lt w = record { quiet = λ g okg m l c d. go g okg (parts (against_of g) here.types (view_of (gate gs e)) m.types) (parts (kind_of g) here.kinds (kind_of (gate gs e)) m.kinds) l c d (ℕ_discrete l e) }
   where
     parts : (x u w : ℕ) → bit_and x (bit_or u w) ≡ 0 → (bit_and x u ≡ 0) × (bit_and w x ≡ 0)
     parts x u w q = let both = or_meets u w x (and_comm (bit_or u w) x ∙ q) in (and_comm x u ∙ both.0, both.1)
 
-    go : (g : Gate) → IsGate 6 g → (bit_and (against_of g) u ≡ 0) × (bit_and (view_of (gate gs e)) (against_of g) ≡ 0) → (bit_and (kind_of g) v ≡ 0) × (bit_and (kind_of (gate gs e)) (kind_of g) ≡ 0)
+    go : (g : Gate) → IsGate 6 g → (bit_and (against_of g) here.types ≡ 0) × (bit_and (view_of (gate gs e)) (against_of g) ≡ 0) → (bit_and (kind_of g) here.kinds ≡ 0) × (bit_and (kind_of (gate gs e)) (kind_of g) ≡ 0)
         → (l : ℕ) → x ≤ l → l < e + 1 → Dec (l ≡ e) → Quiet g (gate gs l) × (is_gap (gate gs l) ≡ false → Quiet (gate gs l) g)
     go g okg a b l c d (yes q) = rw q (quiet_seen g (gate gs e) okg a.1 b.1 (each_at GateOrGap gs _ ok e lt))
-    go g okg a b l c d (no ne) = w.quiet g okg a.0 b.0 l c (omega arith)
+    go g okg a b l c d (no ne) = w.quiet g okg (record { types = a.0; kinds = b.0 }) l c (omega arith)
+
+-- what is seen of a gate is what it must not meet
+seen_met : (g : Gate) (seen here : Sets) → (seen.types ≡ against_of g) × (seen.kinds ≡ kind_of g) → MeetsNone seen here → MeetsNone (record { types = against_of g; kinds = kind_of g }) here
+seen_met g seen here is m = record { types = rw (← is.0) m.types; kinds = rw (← is.1) m.kinds }
 
 -- the gates of a stretch are quiet with what meets nothing of it, and with a gap
-pub quiet_rows : (gs : List Gate) (x e u v : ℕ) (g : Gate) (seen : Sets) → StretchPassed gs x e u v → Each GateOrGap gs → GateOrGap g → SeenAs g seen → bit_and seen.types u ≡ 0 → bit_and seen.kinds v ≡ 0
+pub quiet_rows : (gs : List Gate) (x e : ℕ) (here : Sets) (g : Gate) (seen : Sets) → StretchPassed gs x e here → Each GateOrGap gs → GateOrGap g → SeenAs g seen → MeetsNone seen here
     → (l : ℕ) → x ≤ l → l < e → l < length gs → is_gap (gate gs l) ≡ false → Quiet (gate gs l) g
-quiet_rows gs x e u v g seen w ok stands is a b l c d inside real =
+quiet_rows gs x e here g seen w ok stands is m l c d inside real =
     let okl : IsGate 6 (gate gs l) = (each_at GateOrGap gs _ ok l inside).real real in
     ⊎_elim (λ (q : is_gap g ≡ true). rw (stands.blank q) (record { unfit = gap_unfit (gate gs l) okl; pass = gap_passed (gate gs l) okl }))
-    (λ (q : is_gap g ≡ false). (w.quiet g (stands.real q) (rw (← (is q).0) a) (rw (← (is q).1) b) l c d).1 real) (decide (is_gap g))
+    (λ (q : is_gap g ≡ false). (w.quiet g (stands.real q) (seen_met g seen here (is q) m) l c d).1 real) (decide (is_gap g))
 
 -- every gate is of a kind, so that nothing is said where all kinds are there
 some_rest : (n : ℕ) → 0 < n → n < 0x1_0000_0000_0000_0000 → n % 0x1_0000_0000_0000_0000 ≡ 0 → ⊥
 some_rest n pos lt e = omega arith
 
-pub passed_all : (gs : List Gate) (x e u : ℕ) → StretchPassed gs x e u all_kinds
-passed_all gs x e u = record { quiet = λ g ok a b l c d. absurd (some_rest (kind_of g) (kind_some g ok).0 (kind_some g ok).1 (sym (and_mask (kind_of g) 64) ∙ b)) }
+pub passed_all : (gs : List Gate) (x e : ℕ) (here : Sets) → here.kinds ≡ all_kinds → StretchPassed gs x e here
+passed_all gs x e here all =
+    record { quiet = λ g ok m. let b : bit_and (kind_of g) all_kinds ≡ 0 = rw (← all) m.kinds in absurd (some_rest (kind_of g) (kind_some g ok).0 (kind_some g ok).1 (sym (and_mask (kind_of g) 64) ∙ b)) }
 
-pub marked_start : (gs : List Gate) (marks : List ℕ) → length gs + 16 ≤ 8 * length marks → marks ≡ replicate (length marks) all_kinds → StretchesMarked gs marks
-marked_start gs marks room e =
-    record {
-      room = room;
-      each = λ s l. rw (ap (λ (t : List ℕ). get_or t (2 * s + 1) 0) e ∙ get_or-replicate (length marks) (2 * s + 1) all_kinds 0 (omega arith)) (passed_all gs (16 * s) (16 * s + 16) _);
-    }
+pub marked_start : (gs : List Gate) (marks : List Sets) → length gs ≤ 16 * length marks → ((s : ℕ) → s < length marks → (mark marks s).kinds ≡ all_kinds) → StretchesMarked gs marks
+marked_start gs marks room e = record { room = room; each = λ s l. passed_all gs (16 * s) (16 * s + 16) _ (e s (omega arith)) }
 
 -- gate p is replaced, and its stretch forgotten
-pub marked_set : (gs : List Gate) (marks : List ℕ) (p : ℕ) (g : Gate) → p < length gs → StretchesMarked gs marks → StretchesMarked (set gs p g) (set marks (2 * (p / 16) + 1) all_kinds)
-marked_set gs marks p g lt w =
+pub marked_set : (gs : List Gate) (marks : List Sets) (p : ℕ) (g : Gate) (none : Sets) → p < length gs → none.kinds ≡ all_kinds → StretchesMarked gs marks → StretchesMarked (set gs p g) (set marks (p / 16) none)
+marked_set gs marks p g none lt all w =
     record {
-      room = rw (length-set gs p g, length-set marks (2 * (p / 16) + 1) all_kinds) w.room;
+      room = rw (length-set gs p g, length-set marks (p / 16) none) w.room;
       each = λ s l. go s (rw (length-set gs p g) at l) (ℕ_discrete s (p / 16));
     }
   where
-    go : (s : ℕ) → 16 * s + 16 ≤ length gs → Dec (s ≡ p / 16)
-        → StretchPassed (set gs p g) (16 * s) (16 * s + 16) (get_or (set marks (2 * (p / 16) + 1) all_kinds) (2 * s) 0) (get_or (set marks (2 * (p / 16) + 1) all_kinds) (2 * s + 1) 0)
-    go s l (yes e) =
-        rw (e, get_or-set_same marks (2 * (p / 16) + 1) all_kinds 0 (omega (arith, w.room))) (passed_all (set gs p g) (16 * (p / 16)) (16 * (p / 16) + 16) _)
+    go : (s : ℕ) → 16 * s + 16 ≤ length gs → Dec (s ≡ p / 16) → StretchPassed (set gs p g) (16 * s) (16 * s + 16) (mark (set marks (p / 16) none) s)
+    go s l (yes e) = rw (e, get_or-set_same marks (p / 16) none (record { types = 0; kinds = 0 }) (omega (arith, w.room))) (passed_all (set gs p g) (16 * (p / 16)) (16 * (p / 16) + 16) none all)
     go s l (no ne) =
-        rw (get_or-set_other marks (2 * (p / 16) + 1) (2 * s) all_kinds 0 (λ e. omega arith), get_or-set_other marks (2 * (p / 16) + 1) (2 * s + 1) all_kinds 0 (λ e. ne (omega arith)))
-        (record { quiet = λ h ok a b k c d. rw (get_or-set_other gs p k g _ (λ e. ne (omega arith))) ((w.each s l).quiet h ok a b k c d) })
-
--- stretch s is looked at
-pub marked_look : (gs : List Gate) (marks : List ℕ) (s u v : ℕ) → 16 * s + 16 ≤ length gs → StretchesMarked gs marks → StretchPassed gs (16 * s) (16 * s + 16) u v
-    → StretchesMarked gs (set (set marks (2 * s) u) (2 * s + 1) v)
-marked_look gs marks s u v inside w here =
-    record { room = rw (length-set (set marks (2 * s) u) (2 * s + 1) v, length-set marks (2 * s) u) w.room; each = λ q l. go q l (ℕ_discrete q s) }
-  where
-    first : get_or (set (set marks (2 * s) u) (2 * s + 1) v) (2 * s) 0 ≡ u
-    first = get_or-set_other (set marks (2 * s) u) (2 * s + 1) (2 * s) v 0 (λ e. omega arith) ∙ get_or-set_same marks (2 * s) u 0 (omega (arith, w.room))
-
-    second : get_or (set (set marks (2 * s) u) (2 * s + 1) v) (2 * s + 1) 0 ≡ v
-    second = get_or-set_same (set marks (2 * s) u) (2 * s + 1) v 0 (rw (length-set marks (2 * s) u) (omega (arith, w.room)))
-
-    else_where : (k : ℕ) → (k ≡ 2 * s → ⊥) → (k ≡ 2 * s + 1 → ⊥) → get_or (set (set marks (2 * s) u) (2 * s + 1) v) k 0 ≡ get_or marks k 0
-    else_where k a b = get_or-set_other (set marks (2 * s) u) (2 * s + 1) k v 0 b ∙ get_or-set_other marks (2 * s) k u 0 a
-
-    go : (q : ℕ) → 16 * q + 16 ≤ length gs → Dec (q ≡ s)
-        → StretchPassed gs (16 * q) (16 * q + 16) (get_or (set (set marks (2 * s) u) (2 * s + 1) v) (2 * q) 0) (get_or (set (set marks (2 * s) u) (2 * s + 1) v) (2 * q + 1) 0)
-    go q l (yes e) = rw (e, first, second) here
-    go q l (no ne) = rw (else_where (2 * q) (λ e. ne (omega arith)) (λ e. omega arith), else_where (2 * q + 1) (λ e. omega arith) (λ e. ne (omega arith))) (w.each q l)
+        rw (get_or-set_other marks (p / 16) s none (record { types = 0; kinds = 0 }) ne)
+        (record { quiet = λ h ok m k c d. rw (get_or-set_other gs p k g _ (λ e. ne (omega arith))) ((w.each s l).quiet h ok m k c d) })
 
 -- row i passes stretch s
-pub clear_stretch : (gs : List Gate) (i s u v : ℕ) → Clear gs i (16 * s) → 16 * s + 16 ≤ length gs → IsGate 6 (gate gs i) → StretchPassed gs (16 * s) (16 * s + 16) u v
-    → bit_and (against_of (gate gs i)) u ≡ 0 → bit_and (kind_of (gate gs i)) v ≡ 0 → Clear gs i (16 * (s + 1))
-clear_stretch gs i s u v w inside ok here a b =
+pub clear_stretch : (gs : List Gate) (i s : ℕ) (seen here : Sets) → Clear gs i (16 * s) → 16 * s + 16 ≤ length gs → IsGate 6 (gate gs i) → SeenAs (gate gs i) seen → is_gap (gate gs i) ≡ false
+    → StretchPassed gs (16 * s) (16 * s + 16) here → MeetsNone seen here → Clear gs i (16 * (s + 1))
+clear_stretch gs i s seen here w inside ok is real passed m =
     record {
       past = omega (arith, w.past);
       inside = omega arith;
-      quiet = λ l c d. by_place (Quiet (gate gs i) (gate gs l)) (16 * s) l (λ e. w.quiet l c e) (λ e. (here.quiet (gate gs i) ok a b l e (omega arith)).0);
+      quiet = λ l c d. by_place (Quiet (gate gs i) (gate gs l)) (16 * s) l (λ e. w.quiet l c e)
+          (λ e. (passed.quiet (gate gs i) ok (seen_met (gate gs i) seen here (is real) m) l e (omega arith)).0);
     }
 
 -- ---- what the code computes from a record's word

@@ -1,4 +1,5 @@
 pub mod Buffers
 pub mod GateChanges
+pub mod Memories
 pub mod Rows
 pub mod Views

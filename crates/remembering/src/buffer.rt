@@ -27,11 +27,9 @@ pub fn close_gaps(b: &mut [u8], m: usize) -> usize
     requires { BufferHolds b.old (gates_in b.old m) }
     ensures { BufferHolds b.new (ungapped (gates_in b.old m)) × (result ≡ length (ungapped (gates_in b.old m))) }
 {
-    let mut q: usize = 0;
-    let mut p: usize = 0;
-    while p < m {
+    let mut q = 0;
+    for p in 0..m {
         q = keep_record(b, p, q);
-        p = p + 1;
     }
     q
 }
@@ -41,9 +39,5 @@ pub fn clear_from(b: &mut [u8], from: usize)
     requires { from ≤ length b.old }
     ensures { b.new ≡ take from b.old ++ replicate (length b.old - from) 0 }
 {
-    let mut x = from;
-    while x < b.len() {
-        b[x] = 0;
-        x = x + 1;
-    }
+    b[from..].fill(0);
 }

@@ -1,12 +1,14 @@
 // What the search remembers stays true where a gate changes: the rows before it that reach it are looked at again, and its own starts anew.
-ghost use Rattle.std.specs.Prelude.{◌≡◌, true, cond, ◌+◌, ◌*◌, ◌≤◌, ◌<◌, min, set};
+ghost use Rattle.std.specs.Prelude.{◌≡◌, true, cond, ◌+◌, ◌*◌, ◌≤◌, ◌<◌, set};
 ghost use Rattle.remembering.specs.Inner.Buffers.{gates_in, is_gap, GateOrGap};
 ghost use Rattle.remembering.specs.Inner.Rows.{settled_mark, RowKnown};
 ghost use Rattle.remembering.specs.Inner.Views.{SeenAs, StretchesMarked};
-ghost use Rattle.remembering.specs.Inner.GateChanges.{change_of, MemoryTrue, ChangeFits, RowsAhead, LookFits, LookedAgain, Looked};
+ghost use Rattle.remembering.specs.Inner.Memories.{MemoryTrue};
+ghost use Rattle.remembering.specs.Inner.GateChanges.{change_of, ChangeFits, RowsAhead, LookFits, LookedAgain, Looked};
 
+use super::memory::Memory;
 use super::rows::SETTLED;
-use super::views::Sets;
+use super::views::{Sets, UNKNOWN};
 use gates::Gate;
 
 // Of the gates and gaps in the buffer, so many, the one at a place is to become a gate, or a gap: seen is what this must not meet. No row before
@@ -20,17 +22,19 @@ pub struct Change {
     pub from: usize,
 }
 
-// The gate at a place is to become another.
-pub fn plan_change(count: usize, place: usize, gate: Gate, from: usize) -> Change
-    requires { GateOrGap gate }
-    ensures { (result ≡ change_of count place gate from result.seen) × SeenAs gate result.seen }
-{
-    Change {
-        count,
-        place,
-        gate,
-        seen: super::views::see_gate(gate),
-        from,
+impl Change {
+    // The gate at a place is to become another.
+    pub fn new(count: usize, place: usize, gate: Gate, from: usize) -> Self
+        requires { GateOrGap gate }
+        ensures { (result ≡ change_of count place gate from result.seen) × SeenAs gate result.seen }
+    {
+        Change {
+            count,
+            place,
+            gate,
+            seen: super::views::see_gate(gate),
+            from,
+        }
     }
 }
 
@@ -43,35 +47,14 @@ fn look_again(b: &[u8], change: Change, r: usize, n: u16) -> u16
     if c < change.place {
         return n;
     }
-    if c == change.place {
-        return change.place as u16;
+    if change.place < c {
+        let h = super::views::row_word(b, change.count, r);
+        let w = gates::words::word_of(change.gate);
+        if rules::passing::may_change(h, w) && !rules::fitting::fits_pair(h, w) {
+            return n;
+        }
     }
-    let h = super::views::row_word(b, change.count, r);
-    let w = gates::words::word_of(change.gate);
-    if !rules::passing::may_change(h, w) {
-        return change.place as u16;
-    }
-    if rules::fitting::fits_pair(h, w) {
-        return change.place as u16;
-    }
-    n
-}
-
-// The lowest row that may have a pair, which was low, where row r has the number n now.
-fn lower_row(low: usize, r: usize, n: u16) -> usize
-    ensures { (result ≤ low) × (r < result → settled_mark ≤ n) }
-{
-    if low <= r {
-        return low;
-    }
-    if n < SETTLED { r } else { low }
-}
-
-// The nearer of two places.
-fn nearer(x: usize, y: usize) -> usize
-    ensures { result ≡ min x y }
-{
-    if x < y { x } else { y }
+    change.place as u16
 }
 
 // The sixteen rows from x on, those before the change, look at it again; answers the lowest of them that may have a pair then, or `from`.
@@ -79,22 +62,22 @@ fn look_from(b: &[u8], far: &mut [u16], change: Change, x: usize) -> usize
     requires { ChangeFits b.now change × RowsAhead (gates_in b.now change.count) far.old change x }
     ensures { LookedAgain (gates_in b.now change.count) change far.old far.new x (x + 16) result }
 {
-    let end = nearer(change.place, x + 16);
     let mut low = change.from;
-    let mut r = x;
-    while r < end {
+    for r in x..change.place.min(x + 16) {
         let n = look_again(b, change, r, far[r]);
         far[r] = n;
-        low = lower_row(low, r, n);
-        r = r + 1;
+        if n < SETTLED {
+            low = low.min(r);
+        }
     }
     low
 }
 
 // No row of stretch s is to be looked at again: none ends at the place, and all pass what it is to become. What is known of a stretch that may
 // change soon is not worth the making.
-fn stretch_stays(b: &[u8], far: &[u16], marks: &mut [u64], change: Change, s: usize) -> bool
-    requires { ChangeFits b.now change × StretchesMarked (gates_in b.now change.count) marks.old × RowsAhead (gates_in b.now change.count) far.now change (16 * s) }
+fn stretch_stays(b: &[u8], far: &[u16], marks: &mut [Sets], change: Change, s: usize) -> bool
+    requires { ChangeFits b.now change × StretchesMarked (gates_in b.now change.count) marks.old
+        × RowsAhead (gates_in b.now change.count) far.now change (16 * s) }
     ensures stretches_marked { StretchesMarked (gates_in b.now change.count) marks.new }
     ensures looked_again { result ≡ true → LookedAgain (gates_in b.now change.count) change far.now far.now (16 * s) (16 * s + 16) change.from }
 {
@@ -102,58 +85,10 @@ fn stretch_stays(b: &[u8], far: &[u16], marks: &mut [u64], change: Change, s: us
         return false;
     }
     super::views::mark_stretch(b, marks, change.count, s);
-    if !super::views::meets_none(marks, s, change.seen) {
+    if !change.seen.meets_none(marks[s]) {
         return false;
     }
-    super::rows::count_rows(far, 16 * s, change.place) == 0
-}
-
-// The rows of stretch s look at the change again, where one of them reaches it.
-fn look_stretch(
-    b: &[u8],
-    far: &mut [u16],
-    reach: &mut [u16],
-    marks: &mut [u64],
-    change: Change,
-    s: usize,
-) -> usize
-    requires { LookFits b.now far.old reach.old marks.old change (16 * s) }
-    ensures { Looked (gates_in b.now change.count) change far.old far.new reach.new marks.new (16 * s) (16 * s + 16) result }
-{
-    if ((reach[s] % SETTLED) as usize) < change.place {
-        return change.from;
-    }
-    if stretch_stays(b, far, marks, change, s) {
-        return change.from;
-    }
-    let low = look_from(b, far, change, 16 * s);
-    reach[s] = super::rows::furthest(far, 16 * s);
-    low
-}
-
-// The same of the sixteen stretches from x on.
-fn look_stretches(
-    b: &[u8],
-    far: &mut [u16],
-    reach: &mut [u16],
-    marks: &mut [u64],
-    change: Change,
-    x: usize,
-) -> usize
-    requires { LookFits b.now far.old reach.old marks.old change (16 * x) }
-    ensures { Looked (gates_in b.now change.count) change far.old far.new reach.new marks.new (16 * x) (16 * x + 256) result }
-{
-    if (super::rows::furthest(reach, x) as usize) < change.place {
-        return change.from;
-    }
-    let end = nearer((change.place + 15) / 16, x + 16);
-    let mut low = change.from;
-    let mut s = x;
-    while s < end {
-        low = nearer(low, look_stretch(b, far, reach, marks, change, s));
-        s = s + 1;
-    }
-    low
+    super::rows::count_rows(&far[16 * s..16 * s + 16], change.place as u16) == 0
 }
 
 // The number of row p, which starts anew with g.
@@ -167,26 +102,53 @@ fn own_row(p: usize, g: Gate) -> u16
     (p + 1) as u16
 }
 
-// What is remembered becomes true of the buffer as the change will leave it. Answers the lowest row that may have a pair then.
-pub fn settle_rows(
-    b: &[u8],
-    far: &mut [u16],
-    reach: &mut [u16],
-    marks: &mut [u64],
-    change: Change,
-) -> usize
-    requires { ChangeFits b.now change × MemoryTrue (gates_in b.now change.count) far.old reach.old marks.old change.count change.from }
-    ensures { (result ≤ change.from) × MemoryTrue (set (gates_in b.now change.count) change.place change.gate) far.new reach.new marks.new change.count result }
-{
-    let p = change.place;
-    let mut low = change.from;
-    let mut x: usize = 0;
-    while 16 * x < p {
-        low = nearer(low, look_stretches(b, far, reach, marks, change, x));
-        x = x + 16;
+impl<const R: usize, const S: usize> Memory<R, S> {
+    // The rows of stretch s look at the change again, where one of them reaches it.
+    fn look_stretch(&mut self, b: &[u8], change: Change, s: usize) -> usize
+        requires { LookFits b.now self.old change (16 * s) }
+        ensures { Looked (gates_in b.now change.count) change self.old self.new (16 * s) (16 * s + 16) result }
+    {
+        if ((self.reach[s] % SETTLED) as usize) < change.place {
+            return change.from;
+        }
+        if stretch_stays(b, &self.far, &mut self.marks, change, s) {
+            return change.from;
+        }
+        let low = look_from(b, &mut self.far, change, 16 * s);
+        let far = &self.far[..];
+        self.reach[s] = super::rows::furthest(&far[16 * s..16 * s + 16]);
+        low
     }
-    far[p] = own_row(p, change.gate);
-    super::rows::raise_reach(far, reach, change.count, p, (p + 1) as u16);
-    super::views::forget_stretch(marks, p / 16);
-    low
+
+    // The same of the sixteen stretches from x on.
+    fn look_stretches(&mut self, b: &[u8], change: Change, x: usize) -> usize
+        requires { LookFits b.now self.old change (16 * x) }
+        ensures { Looked (gates_in b.now change.count) change self.old self.new (16 * x) (16 * x + 256) result }
+    {
+        let reach = &self.reach[..];
+        if (super::rows::furthest(&reach[x..x + 16]) as usize) < change.place {
+            return change.from;
+        }
+        let mut low = change.from;
+        for s in x..((change.place + 15) / 16).min(x + 16) {
+            low = low.min(self.look_stretch(b, change, s));
+        }
+        low
+    }
+
+    // What is remembered becomes true of the buffer as the change will leave it. Answers the lowest row that may have a pair then.
+    pub fn settle_rows(&mut self, b: &[u8], change: Change) -> usize
+        requires { ChangeFits b.now change × MemoryTrue (gates_in b.now change.count) self.old change.count change.from }
+        ensures { (result ≤ change.from) × MemoryTrue (set (gates_in b.now change.count) change.place change.gate) self.new change.count result }
+    {
+        let p = change.place;
+        let mut low = change.from;
+        for x in 0..(p + 255) / 256 {
+            low = low.min(self.look_stretches(b, change, 16 * x));
+        }
+        self.far[p] = own_row(p, change.gate);
+        super::rows::raise_reach(&mut self.reach, p, (p + 1) as u16);
+        self.marks[p / 16] = UNKNOWN;
+        low
+    }
 }

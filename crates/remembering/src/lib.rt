@@ -4,5 +4,6 @@
 
 pub mod buffer;
 pub mod changes;
-pub mod rows;
+pub mod memory;
+mod rows;
 pub mod views;

@@ -1,16 +1,36 @@
 // A gate as the others see it, in two numbers, and the same of sixteen gates at once: a row passes sixteen places by one test.
-ghost use Rattle.std.specs.Prelude.{◌≡◌, true, false, ◌+◌, ◌*◌, ◌^◌, ◌≤◌, ◌<◌, length, get_or, set};
-ghost use Rattle.std.specs.Int.Bits.{bit_and};
+ghost use Rattle.std.specs.Prelude.{◌≡◌, true, ◌+◌, ◌*◌, ◌^◌, ◌≤◌, ◌<◌};
 ghost use Rattle.gates.specs.Inner.Words.{gate_of, GateWord};
 ghost use Rattle.rules.specs.Tidying.{gate};
-ghost use Rattle.remembering.specs.Inner.Buffers.{gates_in, is_gap, GateOrGap, BufferHolds};
-ghost use Rattle.remembering.specs.Inner.Rows.{Clear};
-ghost use Rattle.remembering.specs.Inner.Views.{shunned, own_part, view_of, other_part, against_of, six_bits, kind_of, all_kinds, SeenAs, StretchPassed, StretchesMarked, BufferMarked};
+ghost use Rattle.remembering.specs.Inner.Buffers.{gates_in, GateOrGap, BufferHolds};
+ghost use Rattle.remembering.specs.Inner.Views.{shunned, own_part, view_of, other_part, against_of, six_bits, kind_of, SeenAs, MeetsNone};
+ghost use Rattle.remembering.specs.Inner.Views.{StretchPassed, StretchesMarked, BufferMarked};
 
 use gates::Gate;
 
-// Of a stretch of which nothing is known.
-pub const ALL: u64 = 0xffff_ffff_ffff_ffff;
+// Two sets: of types on each line, and of kinds. Of a stretch of sixteen places they are what stands there, of a gate what it must not meet.
+#[derive(Clone, Copy)]
+pub struct Sets {
+    pub types: u64,
+    pub kinds: u64,
+}
+
+impl Sets {
+    // A gate that must not meet the one set meets nothing of the other.
+    pub fn meets_none(self, here: Sets) -> bool
+        ensures { result ≡ true → MeetsNone self here }
+    {
+        self.types & here.types == 0 && self.kinds & here.kinds == 0
+    }
+}
+
+const ALL: u64 = 0xffff_ffff_ffff_ffff;
+
+// Of a stretch of which nothing is known: every gate meets it. A value, since an Option would take half as much memory again, and memory is fixed.
+pub const UNKNOWN: Sets = Sets {
+    types: ALL,
+    kinds: ALL,
+};
 
 // For each line the types that upset the gate's control there, in a byte: bytes 2 to 7 of the word are the six controls v, and 12 for a control,
 // plus 4 where v is not 0, less v and 1 comes to 11, 14, 13 and 0 for v from 0 to 3. No byte borrows from the next, since each difference is 0 or
@@ -24,16 +44,16 @@ fn shun(w: u64) -> u64
         - 0x0101_0101_0101
 }
 
-// Byte o, counted from the low end, is what a gate with operator o has in its view on its target: its own type in the high half, and all types but
-// this in the low half. Types are bits, N 1, E 2, D 4 and C 8; a gap has none.
-const PARTS: u64 = 0x2d4b_1e87_8700;
+// What a gate with each operator has in its view on its target: its own type in the high half, and all types but this in the low half. Types are bits,
+// N 1, E 2, D 4 and C 8; a gap has none.
+const PARTS: [u8; 6] = [0x00, 0x87, 0x87, 0x1e, 0x4b, 0x2d];
 
 // The byte of a view on the gate's target.
 fn own_part(o: u64) -> u64
     requires { o < 6 }
     ensures { (result ≡ own_part o) × (result < 256) }
 {
-    (PARTS >> (8 * o)) % 256
+    u64::from(PARTS[o as usize])
 }
 
 // The byte that a view must not meet there: the halves are exchanged.
@@ -41,8 +61,7 @@ fn other_part(o: u64) -> u64
     requires { o < 6 }
     ensures { (result ≡ other_part o) × (result < 256) }
 {
-    let own = own_part(o);
-    16 * (own % 16) + own / 16
+    u64::from(PARTS[o as usize].rotate_left(4))
 }
 
 // What a gate is for others, and what it cannot pass.
@@ -89,15 +108,8 @@ pub fn row_word(b: &[u8], m: usize, k: usize) -> u64
     gates::words::word_at(b, 8 * k)
 }
 
-// Two sets: of types on each line, and of kinds. Of a stretch of sixteen places they are what stands there, of a gate what it must not meet.
-#[derive(Clone, Copy)]
-pub struct Sets {
-    pub types: u64,
-    pub kinds: u64,
-}
-
 // What the gate with the word w must not meet of a stretch, for its gates to pass it.
-fn see_word(w: u64) -> Sets
+pub fn see_word(w: u64) -> Sets
     requires { GateWord w }
     ensures { SeenAs (gate_of w) result }
 {
@@ -121,72 +133,24 @@ pub fn see_gate(g: Gate) -> Sets
 // The sixteen places from x on.
 fn stretch_of(b: &[u8], m: usize, x: usize) -> Sets
     requires { BufferHolds b.now (gates_in b.now m) × (x + 16 ≤ m) }
-    ensures { StretchPassed (gates_in b.now m) x (x + 16) result.types result.kinds }
+    ensures { StretchPassed (gates_in b.now m) x (x + 16) result }
 {
-    let mut types: u64 = 0;
-    let mut kinds: u64 = 0;
-    let mut k: usize = 0;
-    while k < 16 {
-        let w = row_word(b, m, x + k);
-        types = types | view(w);
-        kinds = kinds | kind(w);
-        k = k + 1;
+    let mut types = 0;
+    let mut kinds = 0;
+    for k in x..x + 16 {
+        let w = row_word(b, m, k);
+        types |= view(w);
+        kinds |= kind(w);
     }
     Sets { types, kinds }
 }
 
 // Stretch s is known.
-pub fn mark_stretch(b: &[u8], marks: &mut [u64], m: usize, s: usize)
+pub fn mark_stretch(b: &[u8], marks: &mut [Sets], m: usize, s: usize)
     requires { BufferMarked b.now marks.old m × (16 * s + 16 ≤ m) }
     ensures { StretchesMarked (gates_in b.now m) marks.new }
 {
-    if marks[2 * s + 1] != ALL {
-        return;
+    if marks[s].kinds == ALL {
+        marks[s] = stretch_of(b, m, 16 * s);
     }
-    let here = stretch_of(b, m, 16 * s);
-    marks[2 * s] = here.types;
-    marks[2 * s + 1] = here.kinds;
-}
-
-// Stretch s is not known.
-pub fn forget_stretch(marks: &mut [u64], s: usize)
-    requires { (2 * s + 1 < length marks.old) × (s < 8000) }
-    ensures { marks.new ≡ set marks.old (2 * s + 1) all_kinds }
-{
-    marks[2 * s + 1] = ALL;
-}
-
-// A gate that must not meet these meets nothing of stretch s.
-pub fn meets_none(marks: &[u64], s: usize, seen: Sets) -> bool
-    requires { (2 * s + 1 < length marks.now) × (s < 8000) }
-    ensures { result ≡ true → (bit_and seen.types (get_or marks.now (2 * s) 0) ≡ 0) × (bit_and seen.kinds (get_or marks.now (2 * s + 1) 0) ≡ 0) }
-{
-    if seen.types & marks[2 * s] != 0 {
-        return false;
-    }
-    seen.kinds & marks[2 * s + 1] == 0
-}
-
-// RowKnown i is clear up to a place; answers up to where it is clear once whole stretches from there on are passed. They are not looked at on a
-// short walk, and the row's record is read here, so that nothing is made ready for rows that walk no further.
-pub fn pass_stretches(b: &[u8], marks: &mut [u64], m: usize, i: usize, from: usize) -> usize
-    requires { BufferMarked b.now marks.old m × (is_gap (gate (gates_in b.now m) i) ≡ false) × Clear (gates_in b.now m) i from }
-    ensures { StretchesMarked (gates_in b.now m) marks.new × (from ≤ result) × Clear (gates_in b.now m) i result }
-{
-    if from < i + 16 {
-        return from;
-    }
-    if from % 16 != 0 {
-        return from;
-    }
-    let seen = see_word(row_word(b, m, i));
-    let mut s = from / 16;
-    while 16 * s + 16 <= m {
-        mark_stretch(b, marks, m, s);
-        if !meets_none(marks, s, seen) {
-            return 16 * s;
-        }
-        s = s + 1;
-    }
-    16 * s
 }

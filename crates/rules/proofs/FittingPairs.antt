@@ -5,6 +5,7 @@ use mathlib.Core.Bool.{Bool, true, false, cond, ◌&&◌, ◌||◌, and-false}
 use Prim.Native.Nat.{ℕ, zero, suc, ◌<◌}
 use native.Mathlib.Omega.{arith}
 use lib.Dec.{eqb}
+use Rattle.std.specs.Prelude.{Option, Some, None, is_some}
 use borrow.Author.Tests.{eqb-true, eq-eqb}
 use Rattle.ranges.specs.Ranges.{every}
 use Rattle.ranges.proofs.Bools.{decide, clash}
@@ -29,63 +30,57 @@ inverse_type (suc o) pos lt = every_below (λ o. same_type (suc o) (inverse_op (
 
 -- ---- the rule that fits, by name
 
-abbrev pub is_rule : Rule → Bool
-is_rule Rule.Nothing = false
-is_rule Rule.Cancel = true
-is_rule Rule.Merge = true
-is_rule Rule.Reduce = true
-
-pub rule_fits : (g h : Gate) → is_rule (rule_for g h) ≡ fits g h
+pub rule_fits : (g h : Gate) → is_some (rule_for g h) ≡ fits g h
 unfolding rule_for fits
 rule_fits g h = go (cancels g h) (merges g h) (reduces g h)
   where
-    go : (x y z : Bool) → is_rule (cond x Rule.Cancel (cond y Rule.Merge (cond z Rule.Reduce Rule.Nothing))) ≡ (x || y || z)
+    go : (x y z : Bool) → is_some (cond x (Some Rule.Cancel) (cond y (Some Rule.Merge) (cond z (Some Rule.Reduce) None))) ≡ (x || y || z)
     go true y z = refl
     go false true z = refl
     go false false true = refl
     go false false false = refl
 
 -- and why it is
-pub data Chosen (g h : Gate) : Rule → Type 0 where
-  cancel : cancels g h ≡ true → Chosen g h Rule.Cancel
-  merge : cancels g h ≡ false → merges g h ≡ true → Chosen g h Rule.Merge
-  reduce : cancels g h ≡ false → merges g h ≡ false → reduces g h ≡ true → Chosen g h Rule.Reduce
-  nothing : fits g h ≡ false → Chosen g h Rule.Nothing
+pub data Chosen (g h : Gate) : Option Rule → Type 0 where
+  cancel : cancels g h ≡ true → Chosen g h (Some Rule.Cancel)
+  merge : cancels g h ≡ false → merges g h ≡ true → Chosen g h (Some Rule.Merge)
+  reduce : cancels g h ≡ false → merges g h ≡ false → reduces g h ≡ true → Chosen g h (Some Rule.Reduce)
+  nothing : fits g h ≡ false → Chosen g h None
 
 pub chosen : (g h : Gate) → Chosen g h (rule_for g h)
 unfolding rule_for fits
 chosen g h = go (cancels g h) refl (merges g h) refl (reduces g h) refl
   where
-    go : (x : Bool) → cancels g h ≡ x → (y : Bool) → merges g h ≡ y → (z : Bool) → reduces g h ≡ z → Chosen g h (cond x Rule.Cancel (cond y Rule.Merge (cond z Rule.Reduce Rule.Nothing)))
+    go : (x : Bool) → cancels g h ≡ x → (y : Bool) → merges g h ≡ y → (z : Bool) → reduces g h ≡ z → Chosen g h (cond x (Some Rule.Cancel) (cond y (Some Rule.Merge) (cond z (Some Rule.Reduce) None)))
     go true c y m z r = Chosen.cancel c
     go false c true m z r = Chosen.merge c m
     go false c false m true r = Chosen.reduce c m r
     go false c false m false r = Chosen.nothing (rw (c, m, r))
 
-pub chosen_reduces : (g h : Gate) → rule_for g h ≡ Rule.Reduce → reduces g h ≡ true
+pub chosen_reduces : (g h : Gate) → rule_for g h ≡ Some Rule.Reduce → reduces g h ≡ true
 chosen_reduces g h e = go (subst (Chosen g h) e (chosen g h))
   where
-    go : Chosen g h Rule.Reduce → reduces g h ≡ true
+    go : Chosen g h (Some Rule.Reduce) → reduces g h ≡ true
     go (Chosen.reduce c m r) = r
 
-nothing_chosen : (g h : Gate) → rule_for g h ≡ Rule.Nothing → fits g h ≡ false
-nothing_chosen g h e = sym (rule_fits g h) ∙ ap is_rule e
+nothing_chosen : (g h : Gate) → rule_for g h ≡ None → fits g h ≡ false
+nothing_chosen g h e = sym (rule_fits g h) ∙ ap is_some e
 
 -- by the lines first
-pub rule_lines : (g h : Gate) → rule_for g h ≡ cond (same_lines g h) (rule_by g.operator h.operator (differences g h)) Rule.Nothing
+pub rule_lines : (g h : Gate) → rule_for g h ≡ cond (same_lines g h) (rule_by g.operator h.operator (differences g h)) None
 unfolding rule_for rule_by cancels merges reduces
 rule_lines g h = go (same_lines g h)
   where
     go : (b : Bool)
-        → cond (b && eqb (differences g h) 0 && eqb h.operator (inverse_op g.operator)) Rule.Cancel
-        (cond (b && eqb (differences g h) 0 && is_c g.operator && eqb g.operator h.operator) Rule.Merge
-        (cond (b && eqb (differences g h) 1 && eqb g.operator h.operator) Rule.Reduce Rule.Nothing))
-        ≡ cond b (rule_by g.operator h.operator (differences g h)) Rule.Nothing
+        → cond (b && eqb (differences g h) 0 && eqb h.operator (inverse_op g.operator)) (Some Rule.Cancel)
+        (cond (b && eqb (differences g h) 0 && is_c g.operator && eqb g.operator h.operator) (Some Rule.Merge)
+        (cond (b && eqb (differences g h) 1 && eqb g.operator h.operator) (Some Rule.Reduce) None))
+        ≡ cond b (rule_by g.operator h.operator (differences g h)) None
     go true = refl
     go false = refl
 
 -- operators that no rule takes
-pub types_off : (g h : Gate) → eqb h.operator (inverse_op g.operator) ≡ false → eqb g.operator h.operator ≡ false → rule_for g h ≡ Rule.Nothing
+pub types_off : (g h : Gate) → eqb h.operator (inverse_op g.operator) ≡ false → eqb g.operator h.operator ≡ false → rule_for g h ≡ None
 unfolding rule_for cancels merges reduces
 types_off g h e q = simp (e, q, and-false)
 

@@ -1,10 +1,11 @@
 // Which gates may change places, asked of the numbers that their records are.
-ghost use Rattle.std.specs.Prelude.{◌≡◌, cond, not, ◌≤◌, ◌<◌, eqb};
+ghost use Rattle.std.specs.Prelude.{◌≡◌, not, ◌≤◌, ◌<◌};
 ghost use Rattle.gates.specs.Inner.Words.{gate_of, GateWord};
 ghost use Rattle.gates.specs.Gates.{control};
 ghost use Rattle.rules.specs.Places.{is_c, same_type, blocks, clashes, may_change};
 
 // The operator is C1 or C2.
+#[tactic(auto, unfolding(crate::specs::Places::is_c))]
 pub fn is_c(o: u8) -> bool
     ensures { result ≡ is_c o }
 {
@@ -23,46 +24,41 @@ fn control_in(w: u64, t: u64) -> u64
 // and 2, of N all but 1, of D all but 0, of E all but 2. Value 3 is no control, so no digit has bit 3; and digit 0 is a gap's.
 const UPSETS: u64 = 0x36_5770;
 
-// 1 where the target of g is a control of h that g upsets, else 0.
-fn blocks_gate(g: u64, h: u64) -> u64
+// The target of g is a control of h that g upsets.
+fn blocks_gate(g: u64, h: u64) -> bool
     requires { GateWord g × GateWord h }
-    ensures { result ≡ cond (blocks (gate_of g) (gate_of h)) 1 0 }
+    ensures { result ≡ blocks (gate_of g) (gate_of h) }
 {
     let v = control_in(h, g / 256 % 256);
-    (UPSETS >> (4 * (g % 256) + v)) % 2
+    (UPSETS >> (4 * (g % 256) + v)) % 2 == 1
 }
 
 // Byte a, counted from the low end, has the operators that are not of one type with operator a, bit b for operator b: all of 0 to 5 but a itself and,
 // for C1 and C2 (bytes 1 and 2), the other C.
 const APART: u64 = 0x1f2f_3739_393e;
 
-// 1 where two operators are not of one type, else 0.
-fn types_apart(a: u64, b: u64) -> u64
+// Two operators are not of one type.
+fn types_apart(a: u64, b: u64) -> bool
     requires { (a < 6) × (b < 6) }
-    ensures { result ≡ cond (not (same_type a b)) 1 0 }
+    ensures { result ≡ not (same_type a b) }
 {
-    (APART >> (8 * a + b)) % 2
+    (APART >> (8 * a + b)) % 2 == 1
 }
 
-// 1 where two numbers are one, else 0.
-fn as_one(x: u64, y: u64) -> u64
-    ensures { result ≡ cond (eqb x y) 1 0 }
-{
-    if x == y { 1 } else { 0 }
-}
-
-// 1 where they have one target and are not of one type, else 0.
-fn targets_clash(g: u64, h: u64) -> u64
+// They have one target and are not of one type.
+#[tactic(auto, using(gates::proofs::Bytes::operator_word, gates::proofs::Bytes::target_word), unfolding(crate::specs::Places::clashes))]
+fn targets_clash(g: u64, h: u64) -> bool
     requires { GateWord g × GateWord h }
-    ensures { result ≡ cond (clashes (gate_of g) (gate_of h)) 1 0 }
+    ensures { result ≡ clashes (gate_of g) (gate_of h) }
 {
-    as_one(g / 256 % 256, h / 256 % 256) & types_apart(g % 256, h % 256)
+    (g / 256 % 256 == h / 256 % 256) & types_apart(g % 256, h % 256)
 }
 
-// The gates may change places: there is none of three reasons against it. Each is a bit, looked up and not decided, so that none is a branch.
+// The gates may change places: there is none of three reasons against it. Each is looked up and none is skipped, so that there is no branch.
+#[tactic(auto, unfolding(crate::specs::Places::may_change))]
 pub fn may_change(g: u64, h: u64) -> bool
     requires { GateWord g × GateWord h }
     ensures { result ≡ may_change (gate_of g) (gate_of h) }
 {
-    targets_clash(g, h) | blocks_gate(g, h) | blocks_gate(h, g) == 0
+    !(targets_clash(g, h) | blocks_gate(g, h) | blocks_gate(h, g))
 }

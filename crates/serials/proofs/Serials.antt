@@ -1,16 +1,7 @@
 -- The equations of a reader's definitions, as its code meets them: one byte, case by case; a number kept; a part, one byte at a time; parts one after the
 -- other. Assumes nothing.
-use mathlib.Core.Path.{◌≡◌, refl, ◌∙◌}
-use mathlib.Core.Bool.{Bool, true, false, cond}
-use mathlib.Core.List.{List, [], ◌∷◌, ◌++◌}
-use Prim.Native.Nat.{ℕ, ◌+◌, ◌≤◌, ◌<◌}
-use native.Mathlib.Numerals.{add-one}
-use native.Mathlib.Omega.{arith}
-use lib.Dec.{ltb}
-use lib.ListN.{length, get_or, drop, set, length-set, drop_of_length-le}
-use lib.Seq.{drop-cons, set_out}
-use borrow.Author.Tests.{ltb-true, lt-ltb, le-ltb, eq-eqb, ne_eqb}
-use Rattle.ranges.proofs.Bools.{and_left, and_right}
+use Rattle.std.proofs.Common.{◌≡◌, refl, ◌∙◌, true, false, List, [], ◌∷◌, ◌++◌, ℕ, ◌+◌, ◌≤◌, ◌<◌, add-one, arith, ltb, length, get_or, drop, set, drop_of_length-le, drop-cons, lt-ltb, le-ltb, eq-eqb, ne_eqb}
+use Rattle.ranges.proofs.Bools.{and_right}
 use Rattle.texts.specs.Texts.{joined}
 use Rattle.serials.specs.declared.Scan.{Scan}
 use Rattle.serials.specs.declared.Serial.{Serial}
@@ -21,10 +12,6 @@ use Rattle.serials.proofs.SerialTexts.{follows_digit}
 -- ---- one byte
 
 module _ (s : Scan) (b : ℕ) where
-  pub next_early : comes_next s b ≡ true → s.at < 65535
-  unfolding comes_next
-  next_early can = ltb-true s.at 65535 (and_left (ltb s.at 65535) _ can)
-
   pub next_digit : comes_next s b ≡ true → is_mark b ≡ false → is_digit b ≡ true
   unfolding comes_next
   next_digit can m = follows_digit s.last s.value b (and_right (ltb s.at 65535) _ can) m
@@ -62,17 +49,6 @@ module _ (s next : Scan) (es : List ℕ) where
   pub kept_one : s.count < next.count → kept s next es ≡ set es s.count s.value
   unfolding kept
   kept_one lt = rw (lt-ltb s.count next.count lt)
-
-  pub kept_out : s.count < next.count → length es ≤ s.count → kept s next es ≡ es
-  kept_out lt le = kept_one lt ∙ set_out es s.count s.value le
-
-  pub kept_length : length (kept s next es) ≡ length es
-  unfolding kept
-  kept_length = go (ltb s.count next.count)
-    where
-      go : (b : Bool) → length (cond b (set es s.count s.value) es) ≡ length es
-      go true = length-set es s.count s.value
-      go false = refl
 
 -- ---- a part, one byte at a time
 

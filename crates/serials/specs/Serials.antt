@@ -1,9 +1,9 @@
 -- The reader: what a byte, a part and the end make of it, and what it answers. Any numbers are taken for a reader, made up or not.
-use Rattle.std.specs.Prelude.{ℕ, ◌+◌, ◌≡◌, Bool, cond, not, ◌&&◌, List, [], ◌∷◌, eqb, ltb, length, take, set, replicate}
+use Rattle.std.specs.Prelude.{ℕ, ◌+◌, ◌≡◌, Bool, cond, not, ◌&&◌, List, [], ◌∷◌, eqb, ltb, length, take, set, replicate, Result, Ok, Err}
 use Rattle.card.specs.Card.{Answer, Answer.accepted, Answer.refused, refusing, lines_ok, on_lines, after, laid}
 use Rattle.serials.specs.declared.Scan.{Scan}
 use Rattle.serials.specs.declared.Serial.{Serial}
-use Rattle.serials.specs.declared.Told.{Told}
+use Rattle.serials.specs.declared.Stopped.{Stopped}
 use Rattle.serials.specs.declared.Reply.{Reply}
 use Rattle.serials.specs.SerialTexts.{is_mark, with_digit, follows, entries_answer}
 
@@ -13,13 +13,13 @@ serial s es = record { scan = s; entries = es }
 -- ---- the answer that stands in a reader
 
 -- the document's number and values for each case of the answer
-abbrev pub told_as : Told → Answer
-told_as (Told.Entries m) = accepted (m ∷ [])
-told_as (Told.Refused k p) = refused k p
+abbrev pub told_as : Result ℕ Stopped → Answer
+told_as (Ok m) = accepted (m ∷ [])
+told_as (Err e) = refused e.number e.place
 
 -- no entries while the text goes on; then a refusal, or all numbers as the entries
-unfoldable pub told_of : Scan → Told
-told_of s = cond (eqb s.over 0) (Told.Entries 0) (cond (eqb s.number 0) (Told.Entries s.count) (Told.Refused s.number s.place))
+unfoldable pub told_of : Scan → Result ℕ Stopped
+told_of s = cond (eqb s.over 0) (Ok 0) (cond (eqb s.number 0) (Ok s.count) (Err (record { number = s.number; place = s.place })))
 
 abbrev pub standing : Serial → Answer
 standing r = told_as (told_of r.scan)

@@ -5,18 +5,14 @@ ghost use Rattle.serials.specs.Serials.{serial, stopped_by, ended, ended_table};
 ghost use Rattle.serials.specs.SerialTexts.{entries_answer};
 
 use crate::{Scan, scanning};
-use tables::Checked;
 
 // The numbers go to the start of the table.
+#[tactic(auto, unfolding(card::specs::Card::laid))]
 fn lay(numbers: &[u16], table: &mut [u16])
     requires { length numbers.now ≤ length table.old }
     ensures { table.new ≡ laid numbers.now table.old }
 {
-    let mut i: usize = 0;
-    while i < numbers.len() {
-        table[i] = numbers[i];
-        i += 1;
-    }
+    table[..numbers.len()].copy_from_slice(numbers);
 }
 
 // What is answered of the numbers stands, and they are laid into the table where they are accepted.
@@ -26,8 +22,8 @@ fn settle(s: Scan, numbers: &[u16], table: &mut [u16]) -> Scan
     ensures table_after { table.new ≡ after (on_lines s.lines (entries_answer s.lines numbers.now (length table.old))) (laid numbers.now table.old) table.old }
 {
     match tables::check_table(s.lines, numbers) {
-        Checked::Refused { number, place } => scanning::stop(s, number, place as u16),
-        Checked::Accepted => {
+        Err(refusal) => scanning::stop(s, refusal.number(), refusal.place() as u16),
+        Ok(()) => {
             if table.len() < numbers.len() {
                 return scanning::stop(s, 5, s.count);
             }

@@ -8,9 +8,10 @@ ghost use Rattle.serials.specs.Serials.{reply, started, fed, ended, ended_table}
 mod closing;
 pub mod scanning;
 
-// Where a reader is in its text, and the answer that stands. over is 0 while the text goes on; then number and place are a refusal, or number is 0 and the count
-// numbers were accepted as entries. last is the byte that came last, a space at the start; at is the offset of the next one; value is the number under way, 0
-// where there is none, and first the offset at which it begins, or the next one does; count is how many numbers were ended, up to 730.
+// Where a reader is in its text, and the answer that stands. The fields are those of the struct that C callers hold: a flag and a number, no enum.
+// over is 0 while the text goes on; then number and place are a refusal, or number is 0 and the count numbers were accepted as entries. last is the
+// byte that came last, a space at the start; at is the offset of the next one; value is the number under way, 0 where there is none, and first the
+// offset at which it begins, or the next one does; count is how many numbers were ended, up to 730.
 #[repr(C)]
 #[derive(Clone, Copy)]
 pub struct Scan {
@@ -33,17 +34,18 @@ pub struct Serial {
     pub entries: [u16; 729],
 }
 
-// No entries while the text goes on.
-#[derive(Clone, Copy)]
-pub enum Told {
-    Entries(usize),
-    Refused { number: u8, place: usize },
+// A refusal that stands in a reader, by its number on the card: it lies in memory of the caller's, who may have put any number there.
+#[derive(Clone, Copy, Debug, PartialEq, Eq)]
+pub struct Stopped {
+    pub number: u8,
+    pub place: usize,
 }
 
+// The entries, none of them while the text goes on, or the refusal.
 #[derive(Clone, Copy)]
 pub struct Reply {
     pub reader: Serial,
-    pub told: Told,
+    pub told: Result<usize, Stopped>,
 }
 
 // A reader for a table on so many lines: refusal 1.

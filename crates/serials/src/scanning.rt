@@ -1,14 +1,15 @@
 // A reader's numbers, byte by byte.
 ghost use Rattle.std.specs.Prelude.{◌≡◌};
-ghost use Rattle.serials.specs.SerialTexts.{is_digit, is_mark, follows};
+ghost use Rattle.serials.specs.SerialTexts.{is_mark, follows};
 ghost use Rattle.serials.specs.Serials.{serial, told_of, stopped, comes_next, stepped, kept, opened, fed};
 
-use crate::{Scan, Told};
+use crate::{Scan, Stopped};
 
+#[tactic(auto, unfolding(crate::specs::Serials::opened))]
 pub fn open(lines: u8) -> Scan
     ensures { result ≡ opened lines }
 {
-    let bad = if card::lines_ok(lines) { 0u8 } else { 1u8 };
+    let bad = u8::from(!card::lines_ok(lines));
     Scan {
         lines,
         last: b' ',
@@ -23,57 +24,53 @@ pub fn open(lines: u8) -> Scan
 }
 
 // The answer that stands.
-pub fn tell(s: Scan) -> Told
+pub fn tell(s: Scan) -> Result<usize, Stopped>
     ensures { result ≡ told_of s }
 {
     if s.over == 0 {
-        return Told::Entries(0);
+        return Ok(0);
     }
     if s.number == 0 {
-        return Told::Entries(s.count as usize);
+        return Ok(s.count as usize);
     }
-    Told::Refused {
+    Err(Stopped {
         number: s.number,
         place: s.place as usize,
-    }
+    })
 }
 
 // A refusal stands from now on, or acceptance, of number 0.
-pub fn stop(before: Scan, number: u8, place: u16) -> Scan
-    ensures { result ≡ stopped before number place }
+#[tactic(auto, unfolding(crate::specs::Serials::stopped))]
+pub fn stop(s: Scan, number: u8, place: u16) -> Scan
+    ensures { result ≡ stopped s number place }
 {
-    let mut s = before;
-    s.over = 1;
-    s.number = number;
-    s.place = place;
-    s
+    Scan {
+        over: 1,
+        number,
+        place,
+        ..s
+    }
 }
 
-fn is_digit(b: u8) -> bool
-    ensures { result ≡ is_digit b }
-{
-    b'0' <= b && b <= b'9'
-}
-
+#[tactic(auto, unfolding(crate::specs::SerialTexts::is_mark))]
 fn is_mark(b: u8) -> bool
     ensures { result ≡ is_mark b }
 {
-    b == b' ' || b == b'\n'
+    matches!(b, b' ' | b'\n')
 }
 
 // Whether byte b can come after the byte `last`, which ends the digits of `value`.
+#[tactic(auto, unfolding(crate::specs::SerialTexts::is_digit, crate::specs::SerialTexts::follows))]
 fn can_follow(last: u8, value: u16, b: u8) -> bool
     ensures { result ≡ follows last value b }
 {
-    if !is_digit(last) {
-        return is_digit(b);
+    if !last.is_ascii_digit() {
+        return b.is_ascii_digit();
     }
-    if is_mark(b) {
-        return true;
-    }
-    is_digit(b) && value != 0
+    is_mark(b) || (b.is_ascii_digit() && value != 0)
 }
 
+#[tactic(auto, unfolding(crate::specs::Serials::comes_next))]
 fn comes_next(s: Scan, b: u8) -> bool
     ensures { result ≡ comes_next s b }
 {
@@ -87,49 +84,51 @@ fn step(s: Scan, b: u8) -> Scan
     if s.over != 0 {
         return s;
     }
-    let mut next = s;
     if !comes_next(s, b) {
-        next.over = 1;
-        next.number = 14;
-        next.place = s.at;
-        return next;
+        return Scan {
+            over: 1,
+            number: 14,
+            place: s.at,
+            ..s
+        };
     }
     let at = s.at + 1;
     if is_mark(b) {
-        next.last = b;
-        next.at = at;
-        next.first = at;
-        next.value = 0;
-        if s.count < 730 {
-            next.count = s.count + 1;
-        }
-        return next;
+        let count = if s.count < 730 { s.count + 1 } else { s.count };
+        return Scan {
+            last: b,
+            at,
+            first: at,
+            value: 0,
+            count,
+            ..s
+        };
     }
-    let value = 10 * (s.value as u32) + ((b - b'0') as u32);
-    if 65535 < value {
-        next.over = 1;
-        next.number = 14;
-        next.place = s.first;
-        return next;
+    let Ok(value) = u16::try_from(10 * u32::from(s.value) + u32::from(b - b'0')) else {
+        return Scan {
+            over: 1,
+            number: 14,
+            place: s.first,
+            ..s
+        };
+    };
+    Scan {
+        last: b,
+        at,
+        value,
+        ..s
     }
-    next.last = b;
-    next.at = at;
-    next.value = value as u16;
-    next
 }
 
 // A number that was counted goes to its place among the entries, if it has one.
+#[tactic(auto, unfolding(crate::specs::Serials::kept))]
 fn keep(s: Scan, next: Scan, entries: &mut [u16])
     ensures { entries.new ≡ kept s next entries.old }
 {
     let k = s.count as usize;
-    if next.count <= s.count {
-        return;
+    if s.count < next.count && k < entries.len() {
+        entries[k] = s.value;
     }
-    if entries.len() <= k {
-        return;
-    }
-    entries[k] = s.value;
 }
 
 pub fn read(before: Scan, bytes: &[u8], entries: &mut [u16]) -> Scan
@@ -137,12 +136,10 @@ pub fn read(before: Scan, bytes: &[u8], entries: &mut [u16]) -> Scan
     ensures entries_after { entries.new ≡ (fed (serial before entries.old) bytes.now).entries }
 {
     let mut s = before;
-    let mut i: usize = 0;
-    while i < bytes.len() {
-        let next = step(s, bytes[i]);
+    for &b in bytes {
+        let next = step(s, b);
         keep(s, next, entries);
         s = next;
-        i += 1;
     }
     s
 }

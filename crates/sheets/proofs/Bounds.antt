@@ -13,7 +13,11 @@ use borrow.Author.Tests.{le-ltb, not-false}
 use Rattle.ranges.proofs.Bools.{decide}
 use Rattle.ranges.proofs.Counts.{lt_or_le}
 use Rattle.card.specs.Card.{Answer, Answer.accepted, Answer.refused, lines_ok, on_lines, laid}
-use Rattle.card.proofs.Cards.{lines_are, refusing_no, refusing_passed, after_accepted}
+use Rattle.std.proofs.Common.{Result, Ok, Err}
+use Rattle.std.specs.Result.{IsOk}
+use Rattle.card.specs.declared.Refusal.{Refusal}
+use Rattle.card.specs.Answers.{number_as}
+use Rattle.card.proofs.Cards.{lines_are, refusing_no, refusing_passed, not_accepted, after_accepted}
 use Rattle.digits.proofs.Sizes.{patterns_most}
 use Rattle.tables.specs.Permutations.{Permutation}
 use Rattle.tables.proofs.Accepts.{table_accepted}
@@ -85,6 +89,11 @@ module _ (f room : List ℕ) (wide : length room ≡ 131072) where
     where
       same : accepted (m ∷ []) ≡ accepted (length (sheet_text f) ∷ []) → m ≡ length (sheet_text f)
       same e = cc
+
+  -- so that no file's text is refused that room
+  pub sheet_taken : (r : Result ℕ Refusal) → number_as r ≡ sheet_answer f (length room) → IsOk r
+  sheet_taken (Ok k) e = refl
+  sheet_taken (Err d) e = not_accepted _ _ _ (e ∙ wide_accepted)
 
 -- ---- a longer input
 

@@ -10,7 +10,7 @@ use lib.Seq.{sets}
 use borrow.Author.Tests.{eq-eqb, ne_eqb, lt-ltb, le-ltb}
 use Rattle.card.specs.Card.{Answer.accepted, Answer.refused, lines_ok, after, laid}
 use Rattle.card.proofs.Fronts.{front_refused}
-use Rattle.card.proofs.Cards.{lines_are, no_lines, good_lines, refusing_yes, refusing_no, refused_both, accepted_both, sets_laid}
+use Rattle.card.proofs.Cards.{lines_are, no_lines, good_lines, refusing_yes, refusing_no, accepted_both, sets_laid}
 use Rattle.tables.specs.Tables.{on_table}
 use Rattle.tables.specs.Permutations.{Permutation}
 use Rattle.tables.proofs.Accepts.{front_table, table_accepted, on_table_permutation}
@@ -58,9 +58,9 @@ module _ (f : List ℕ) where
   -- ---- the call, by the size of the room
 
   module _ (room : List ℕ) (size : ℕ) (is : size ≡ length (sheet_text f)) where
-    pub sheet_small : length room < size → record { answer : refused 5 size ≡ sheet_answer f (length room); room_after : room ≡ sheet_room f room }
-    unfolding sheet_answer sheet_room
-    sheet_small lt = rw is (refused_both _ 5 (length (sheet_text f)) _ room (refusing_yes _ 5 _ _ (lt-ltb (length room) (length (sheet_text f)) (omega arith))))
+    pub sheet_small : length room < size → sheet_answer f (length room) ≡ refused 5 size
+    unfolding sheet_answer
+    sheet_small lt = rw is (refusing_yes _ 5 _ _ (lt-ltb (length room) (length (sheet_text f)) (omega arith)))
 
     pub sheet_written : size ≤ length room → (now : List ℕ) → now ≡ sets room 0 (sheet_text f) → record { answer : accepted (size ∷ []) ≡ sheet_answer f (length room); room_after : now ≡ sheet_room f room }
     unfolding sheet_answer sheet_room

@@ -8,7 +8,8 @@ ghost use Rattle.sheets.specs.Sheets.{sheet_text};
 use std::io;
 use std::io::{Read, Write};
 
-// Reads until the bytes are full or the input ends, and returns how many bytes it put at their start.
+// Reads until the bytes are full or the input ends, and returns how many bytes it put at their start. std's read_exact refuses an input that ends early, and
+// its read_to_end asks for a heap.
 pub fn read_full<R: Read>(input: &mut R, bytes: &mut [u8]) -> io::Result<usize>
     ensures in_bounds { IfOk result (λ n. n ≤ length bytes.new) }
     ensures read { IfOk result (λ n. Consumes (R.remaining input.old) (R.remaining input.new) (take n bytes.new)) }

@@ -1,18 +1,13 @@
 -- The gate of the procedure: it is a gate on n lines, and it fires on a pattern exactly if every line but its target holds the digit of a. Its
--- controls are made from those that name a (`controls_made`), and these from the digits of a, all at once (`full_made`). Assumes nothing.
-use mathlib.Core.Path.{◌≡◌, refl, sym, ap, ◌∙◌}
-use mathlib.Core.Bool.{true, cond, ◌||◌, or-true}
-use mathlib.Core.Logic.{◌⊎◌}
-use Prim.Native.Nat.{ℕ, ◌+◌, ◌-◌, ◌*◌, ◌%◌, ◌^◌, ◌≤◌, ◌<◌}
-use native.Mathlib.Nat.{add-zero}
-use native.Mathlib.Decide.{ℕ_discrete}
-use native.Mathlib.Omega.{arith}
-use lib.Dec.{eqb, ltb, leb}
-use lib.Bits.{bit_or, or_lt, or_zero_r}
-use borrow.Author.Tests.{eqb-true, eq-eqb, ne_eqb, ltb-true, leb-true, le-leb, lt-leb}
+-- controls are made from those that name a (`controls_made`), and these from the digits of a, all at once (`names_more`). Assumes nothing.
+use Rattle.std.proofs.Common.{◌≡◌, refl, sym, ap, ◌∙◌, true, cond, ℕ, ◌+◌, ◌-◌, ◌*◌, ◌%◌, ◌^◌, ◌≤◌, ◌<◌, arith, length, get_or}
+use Rattle.std.proofs.Common.{set, get_or-set_same, get_or-set_other, below_more, List, eqb, ltb, leb, bit_or, eqb-true, ne_eqb, ltb-true}
+use Rattle.std.proofs.Common.{leb-true}
+use Rattle.std.proofs.Math.Decide.{ℕ_discrete}
+use Rattle.std.proofs.lemmas.Bool.Decides.{nat_tests}
+use Rattle.std.proofs.lemmas.Nat.{or_lt}
+use Rattle.std.specs.Int.Bits.{or_zero_r}
 use Rattle.ranges.specs.Ranges.{every, sum}
-use Rattle.ranges.proofs.Counts.{lt_or_le}
-use Rattle.ranges.proofs.Bools.{cond_lt}
 use Rattle.ranges.proofs.Tests.{every_below, every_of}
 use Rattle.digits.specs.Digits.{digit, pack}
 use Rattle.digits.proofs.Digits.{digit_lt, digit_high, digits_equal}
@@ -22,35 +17,34 @@ use Rattle.digits.proofs.Sizes.{three_pos}
 use Rattle.gates.specs.Gates.{control, holds, fires_on, IsGate}
 use Rattle.gates.specs.Inner.Firing.{fires}
 use Rattle.gates.specs.Inner.Quads.{quad}
-use Rattle.gates.proofs.Gates.{holds_none, holds_equal}
 use Rattle.synthesis.specs.Synthesis.{control_for, gate_for}
-use Rattle.synthesis.specs.Inner.TableSteps.{full_controls}
+use Rattle.synthesis.specs.Inner.TableSteps.{full_controls, NamesBelow}
 use Rattle.synthesis.proofs.Exchangers.{exchanger_op}
 
 -- ---- a control and the value of its line
 
 equal_holds : (c x : ℕ) → c < 3 → holds c x ≡ true → c ≡ x
 unfolding holds
-equal_holds c x lt e = eqb-true c x (rw (ne_eqb c 3 (λ q. omega arith)) at e)
+equal_holds c x lt e = grind (arith, nat_tests)
 
 -- ---- the control on a line
 
 module _ (n k a : ℕ) where
   pub control_target : control_for n k a k ≡ 3
   unfolding control_for
-  control_target = rw (eq-eqb k k refl)
+  control_target = grind (arith, nat_tests)
 
   pub control_past : (j : ℕ) → n ≤ j → control_for n k a j ≡ 3
   unfolding control_for
-  control_past j le = rw (le-leb n j le, or-true (eqb j k))
+  control_past j le = grind (arith, nat_tests)
 
   pub control_line : (j : ℕ) → j < n → (j ≡ k → ⊥) → control_for n k a j ≡ digit 3 j a
   unfolding control_for
-  control_line j lt ne = rw (ne_eqb j k ne, lt-leb n j lt)
+  control_line j lt ne = grind (arith, nat_tests)
 
   pub control_lt : (j : ℕ) → control_for n k a j < 4
   unfolding control_for
-  control_lt j = cond_lt (eqb j k || leb n j) (omega arith) (omega (arith, digit_lt 3 j a three_pos))
+  control_lt j = grind (arith, nat_tests, digit_lt 3 j a three_pos)
 
 -- ---- the gate
 
@@ -75,16 +69,8 @@ module _ (n k a d : ℕ) where
     -- ---- when it fires
 
     pub gate_fires : (p : ℕ) → ((j : ℕ) → j < n → (j ≡ k → ⊥) → digit 3 j a ≡ digit 3 j p) → fires (gate_for n k a d) p ≡ true
-    unfolding fires_on
-    gate_fires p h = every_of _ 6 (λ j lt. content j lt (ℕ_discrete j k) (lt_or_le j n))
-      where
-        free : (j : ℕ) → control (gate_for n k a d) j ≡ 3 → holds (control (gate_for n k a d) j) (digit 3 j p) ≡ true
-        free j e = rw e (holds_none (digit 3 j p))
-
-        content : (j : ℕ) → j < 6 → Dec (j ≡ k) → (j < n) ⊎ (n ≤ j) → holds (control (gate_for n k a d) j) (digit 3 j p) ≡ true
-        content j lt (yes e) l = free j (rw e (gate_control k (omega arith) ∙ control_target n k a))
-        content j lt (no ne) (◌⊎◌.inl l) = holds_equal _ _ (gate_control j lt ∙ control_line n k a j l ne ∙ h j l ne)
-        content j lt (no ne) (◌⊎◌.inr l) = free j (gate_control j lt ∙ control_past n k a j l)
+    unfolding fires_on holds control_for
+    gate_fires p h = every_of _ 6 (λ j lt. let e = gate_control j lt in let same = h j in grind (arith, nat_tests))
 
     pub fires_gate : (p : ℕ) → fires (gate_for n k a d) p ≡ true → (j : ℕ) → j < n → (j ≡ k → ⊥) → digit 3 j a ≡ digit 3 j p
     unfolding fires_on
@@ -98,7 +84,7 @@ abbrev named : ℕ → ℕ → ℕ → ℕ
 named n a j = cond (leb n j) 3 (digit 3 j a)
 
 named_lt : (n a j : ℕ) → named n a j < 4
-named_lt n a j = cond_lt (leb n j) (omega arith) (omega (arith, digit_lt 3 j a three_pos))
+named_lt n a j = grind (arith, nat_tests, digit_lt 3 j a three_pos)
 
 -- both bits of line k
 abbrev both : ℕ → ℕ
@@ -126,7 +112,7 @@ or_three x lt = eqb-true (bit_or x 3) 3 (every_below (λ x. eqb (bit_or x 3) 3) 
 
 control_else : (n k a j : ℕ) → (j ≡ k → ⊥) → control_for n k a j ≡ named n a j
 unfolding control_for
-control_else n k a j ne = rw (ne_eqb j k ne)
+control_else n k a j ne = grind (arith, nat_tests)
 
 module _ (n a : ℕ) where
   pub full_lt : full_controls n a < 4 ^ 6
@@ -138,11 +124,11 @@ module _ (n a : ℕ) where
   full_digit j lt = digit_pack 4 (named n a) 6 (λ i l. named_lt n a i) j lt
 
   pub full_past : (j : ℕ) → n ≤ j → j < 6 → digit 4 j (full_controls n a) ≡ 3
-  full_past j le lt = full_digit j lt ∙ rw (le-leb n j le)
+  full_past j le lt = let e = full_digit j lt in grind (arith, nat_tests)
 
   module _ (lines : n ≤ 6) where
     pub full_line : (j : ℕ) → j < n → digit 4 j (full_controls n a) ≡ digit 3 j a
-    full_line j lt = full_digit j (omega arith) ∙ rw (lt-leb n j lt)
+    full_line j lt = let e = full_digit j (omega arith) in grind (arith, nat_tests)
 
     -- those of the gate for line k: both bits of line k are set
     pub controls_made : (k : ℕ) → k < n → bit_or (full_controls n a) (both k) ≡ pack 4 (control_for n k a) 6
@@ -181,8 +167,18 @@ shift_fits n lines = (none_packed n lines).1
 pub full_made : (n a q : ℕ) → n ≤ 6 → a < 3 ^ n → q ≡ quad a → q + (0x1000 - shift n) ≡ full_controls n a
 unfolding quad full_controls none_from
 full_made n a q lines below eq =
-    omega (arith, eq, (none_packed n lines).0, pack_add 4 (λ j. digit 3 j a) (none_from n) 6) ∙ pack_ext 4 (λ j. digit 3 j a + none_from n j) (named n a) 6 (λ j lt. same j (lt_or_le j n))
+    omega (arith, eq, (none_packed n lines).0, pack_add 4 (λ j. digit 3 j a) (none_from n) 6) ∙ pack_ext 4 (λ j. digit 3 j a + none_from n j) (named n a) 6 (λ j lt. same j)
   where
-    same : (j : ℕ) → (j < n) ⊎ (n ≤ j) → digit 3 j a + none_from n j ≡ named n a j
-    same j (◌⊎◌.inl l) = rw (lt-leb n j l) (add-zero _)
-    same j (◌⊎◌.inr l) = rw (le-leb n j l, digit_high 3 n j a three_pos below l)
+    same : (j : ℕ) → digit 3 j a + none_from n j ≡ named n a j
+    same j = let high = digit_high 3 n j a three_pos below in grind (arith, nat_tests)
+
+-- one pattern more has its controls
+pub names_more : (n p q : ℕ) (full : List ℕ) → NamesBelow n p full → p < 3 ^ n → p < length full → q ≡ quad p → NamesBelow n (p + 1) (set full p (q + (0x1000 - shift n)))
+names_more n p q full w below fits eq =
+    record {
+      lines = w.lines;
+      each =
+          below_more (λ a. get_or (set full p (q + (0x1000 - shift n))) a 0 ≡ full_controls n a) p
+          (λ a lt. get_or-set_other full p a (q + (0x1000 - shift n)) 0 (λ e. omega arith) ∙ w.each a lt)
+          (get_or-set_same full p (q + (0x1000 - shift n)) 0 fits ∙ full_made n p q w.lines below eq);
+    }

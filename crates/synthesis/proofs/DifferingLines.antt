@@ -1,25 +1,20 @@
 -- The lines on which two patterns differ: of the controls that name them, put against each other bit by bit, the digits other than 0. The first such
 -- line is computed for all numbers of six digits. Assumes nothing.
-use mathlib.Core.Path.{◌≡◌, refl, sym, ap, ◌∙◌}
-use mathlib.Core.Bool.{Bool, true, cond, ◌&&◌}
-use mathlib.Core.Logic.{⊎_elim}
-use Prim.Native.Nat.{ℕ, ◌-◌, ◌/◌, ◌^◌, ◌≤◌, ◌<◌, min}
-use native.Mathlib.Nat.{mul-le-mul}
-use native.Mathlib.Decide.{ℕ_discrete}
-use native.Mathlib.Omega.{arith}
-use lib.Bits.{bit_and, bit_or, bit_xor, and_le_l, and_le_r, xor_add_and, xor_self, xor_lt}
-use lib.Count.{count_trailing_zeros}
-use lib.Dec.{eqb, ltb}
-use borrow.Author.Tests.{eqb-true, ne_eqb, ltb-true}
+use Rattle.std.proofs.Common.{◌≡◌, refl, sym, ap, ◌∙◌, Bool, true, cond, ℕ, ◌-◌, ◌/◌, ◌^◌, ◌≤◌, ◌<◌, min, mul-le-mul, arith, bit_and}
+use Rattle.std.proofs.Common.{bit_or, bit_xor, eqb, eqb-true, ne_eqb}
+use Rattle.std.proofs.Math.Decide.{ℕ_discrete}
+use Rattle.std.proofs.lemmas.Nat.{and_le_l, and_le_r, xor_lt}
+use Rattle.std.specs.Int.Bits.{xor_add_and, xor_self}
+use Rattle.std.specs.Int.Count.{count_trailing_zeros}
 use Rattle.ranges.specs.Ranges.{every}
-use Rattle.ranges.proofs.Counts.{lt_or_le}
-use Rattle.ranges.proofs.Bools.{and_left, and_right}
 use Rattle.ranges.proofs.Tests.{every_below}
 use Rattle.digits.specs.Digits.{digit, put}
 use Rattle.digits.proofs.Digits.{digit_le, digit_lt, digit_put_same, digit_put_other, put_lt, digits_equal}
 use Rattle.digits.proofs.Bits.{digit_xor}
 use Rattle.digits.proofs.Sizes.{three_pos, patterns_some}
-use Rattle.synthesis.specs.Inner.TableSteps.{full_controls, LowestLine}
+use Rattle.gates.specs.Inner.Lines.{LowestLine}
+use Rattle.gates.proofs.Lines.{first_line, lowest_is}
+use Rattle.synthesis.specs.Inner.TableSteps.{full_controls}
 use Rattle.synthesis.proofs.Controls.{full_lt, full_past, full_line, full_same}
 
 none_least : (x : ℕ) → min 1 x ≡ 0 → x ≡ 0
@@ -83,40 +78,10 @@ differing_lines_less n a i k lt =
         (full_same n a (put 3 k a (digit 3 k i)) j l (sym (digit_put_other 3 j k a (digit 3 k i) (digit_lt 3 k i three_pos) ne)))
         ∙ sym (on_each_line n (put 3 k a (digit 3 k i)) i j l)
 
--- ---- the first of them
-
-abbrev first_line : ℕ → ℕ
-first_line x = count_trailing_zeros 16 x / 2
-
-abbrev none_below : ℕ → Bool
-none_below x = every (λ j. eqb (digit 4 j x) 0) 0 (first_line x)
-
-abbrev some_there : ℕ → Bool
-some_there x = ltb 0 (digit 4 (first_line x) x)
-
-abbrev is_first : ℕ → Bool
-is_first x = ltb (first_line x) 6 && (some_there x && none_below x)
-
-all_first : every (λ x. cond (eqb x 0) true (is_first x)) 0 0x1000 ≡ true
-unfolding every digit count_trailing_zeros
-all_first = refl
-
-pub lowest_is : (x : ℕ) → 0 < x → x < 0x1000 → LowestLine x (first_line x)
-lowest_is x some lt =
-    let all : is_first x ≡ true = rw (ne_eqb x 0 (λ e. omega arith)) at (every_below (λ x. cond (eqb x 0) true (is_first x)) 0x1000 all_first x lt) in
-    let rest : (some_there x && none_below x) ≡ true = and_right (ltb (first_line x) 6) (some_there x && none_below x) all in
-    record {
-      line = ltb-true (first_line x) 6 (and_left (ltb (first_line x) 6) (some_there x && none_below x) all);
-      some = ltb-true 0 (digit 4 (first_line x) x) (and_left (some_there x) (none_below x) rest);
-      none_before = λ j l. eqb-true (digit 4 j x) 0 (every_below (λ j. eqb (digit 4 j x) 0) (first_line x) (and_right (some_there x) (none_below x) rest) j l);
-    }
-
 -- ---- the first of them taken away
 
 lowest_one : (x j k : ℕ) → LowestLine x j → LowestLine x k → j ≡ k
-lowest_one x j k v w =
-    ⊎_elim (λ (l : j < k). absurd (omega (arith, v.some, w.none_before j l)))
-    (λ (l : k ≤ j). ⊎_elim (λ (m : k < j). absurd (omega (arith, w.some, v.none_before k m))) (λ (m : j ≤ k). omega arith) (lt_or_le k j)) (lt_or_le j k)
+lowest_one x j k v w = grind (arith, v.some, w.some, w.none_before j, v.none_before k)
 
 abbrev takes_first : ℕ → Bool
 takes_first x = cond (eqb (ones x) 0) true (eqb (bit_and (ones x) (ones x - 1)) (put 4 (first_line (ones x)) (ones x) 0))

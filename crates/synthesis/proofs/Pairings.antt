@@ -1,20 +1,24 @@
 -- A table with its inverse beside it: two values change places by four stores (`table_stores`, `exchange_paired`), and the inverse that a check
--- leaves is the inverse on both sides (`present`), since a permutation reaches every pattern. Assumes nothing.
-use mathlib.Core.Path.{◌≡◌, sym, ap, ◌∙◌}
-use mathlib.Core.List.{List, map}
-use Prim.Native.Nat.{ℕ, ◌^◌, ◌≤◌, ◌<◌}
-use native.Mathlib.Decide.{ℕ_discrete}
-use native.Mathlib.Omega.{arith}
-use lib.ListN.{length, get_or, set, length-set, length-map}
-use lib.Seq.{get_or-set_same, get_or-set_other, ext_get_or}
+-- leaves is the inverse on both sides (`inverted_paired`), since a permutation reaches every pattern. Assumes nothing.
+use Rattle.std.proofs.Common.{◌≡◌, sym, ap, ◌∙◌, List, map, ℕ, ◌^◌, ◌≤◌, ◌<◌, arith, length, get_or, set, length-set}
+use Rattle.std.proofs.Common.{ext_get_or}
+use Rattle.std.proofs.lemmas.List.{length-map}
+use Rattle.std.proofs.lemmas.Grind.{common_steps}
+use Rattle.std.proofs.lemmas.Bool.Decides.{nat_tests}
 use Rattle.ranges.proofs.Lists.{map_at}
 use Rattle.digits.proofs.Sizes.{three_pos}
 use Rattle.tables.specs.Permutations.{Permutation}
 use Rattle.tables.specs.Inner.Inverses.{Inverted}
 use Rattle.procedure.specs.Inner.Exchanges.{exchanged}
-use Rattle.procedure.proofs.Swaps.{at_one, at_other, at_none, exchanged_twice, exchanged_lt}
+use Rattle.procedure.proofs.Swaps.{exchanged_twice, exchanged_lt}
 use Rattle.procedure.proofs.Pairs.{onto}
 use Rattle.synthesis.specs.Inner.TableSteps.{Paired, Present}
+
+-- where x alone has a, and y alone b
+stored : (t : List ℕ) (x y a b p : ℕ) → x < length t → y < length t → get_or t x 0 ≡ a → get_or t y 0 ≡ b → (get_or t p 0 ≡ a → p ≡ x) → (get_or t p 0 ≡ b → p ≡ y)
+    → get_or (set (set t x b) y a) p 0 ≡ exchanged a b (get_or t p 0)
+unfolding exchanged
+stored t x y a b p lx ly ea eb na nb = grind (arith, common_steps, nat_tests)
 
 -- ---- two values change places: a, which stands in row x, and b, which stands in row y
 
@@ -37,28 +41,21 @@ module _ (t v : List ℕ) (w : Paired t v) (a b : ℕ) (la : a < length t) (lb :
   moved : (p : ℕ) → p < length t → get_or (map (exchanged a b) t) p 0 ≡ exchanged a b (get_or t p 0)
   moved p lp = map_at (exchanged a b) t p 0 0 lp
 
+  entry : (p : ℕ) → p < length t → get_or (set (set t x b) y a) p 0 ≡ exchanged a b (get_or t p 0)
+  entry p l = let at_a = back_a in let at_b = back_b in let there = w.there p l in stored t x y a b p rows.0 rows.1 at_a.1 at_b.1 (λ e. cc) (λ e. cc)
+
   pub table_stores : set (set t x b) y a ≡ map (exchanged a b) t
   table_stores =
-      ext_get_or 0 _ _ (size ∙ sym (length-map t (exchanged a b))) (λ p lp. let l : p < length t = omega (arith, size, lp) in entry p l (ℕ_discrete p y) (ℕ_discrete p x) ∙ sym (moved p l))
+      ext_get_or 0 _ _ (size ∙ sym (length-map t (exchanged a b)))
+      (λ p lp. let l : p < length t = omega (arith, size, lp) in entry p l ∙ sym (moved p l))
     where
       size : length (set (set t x b) y a) ≡ length t
       size = length-set (set t x b) y a ∙ length-set t x b
 
-      entry : (p : ℕ) → p < length t → Dec (p ≡ y) → Dec (p ≡ x) → get_or (set (set t x b) y a) p 0 ≡ exchanged a b (get_or t p 0)
-      entry p lp (yes e) f = rw (e, back_b.1, at_other a b) (get_or-set_same (set t x b) y a 0 (omega (arith, length-set t x b, rows.1)))
-      entry p lp (no ny) (yes e) = get_or-set_other (set t x b) y p a 0 ny ∙ rw (e, back_a.1, at_one a b) (get_or-set_same t x b 0 rows.0)
-      entry p lp (no ny) (no nx) =
-          get_or-set_other (set t x b) y p a 0 ny ∙ get_or-set_other t x p b 0 nx
-          ∙ sym (at_none a b (get_or t p 0) (λ e. nx (sym (w.there p lp).1 ∙ ap (λ (q : ℕ). get_or v q 0) e)) (λ e. ny (sym (w.there p lp).1 ∙ ap (λ (q : ℕ). get_or v q 0) e)))
-
   -- the inverse's entry at q is the row that held the value which is q now
   inverse_stores : (q : ℕ) → q < length t → get_or (set (set v a y) b x) q 0 ≡ get_or v (exchanged a b q) 0
-  inverse_stores q lq = go (ℕ_discrete q b) (ℕ_discrete q a)
-    where
-      go : Dec (q ≡ b) → Dec (q ≡ a) → get_or (set (set v a y) b x) q 0 ≡ get_or v (exchanged a b q) 0
-      go (yes e) f = rw (e, at_other a b) (get_or-set_same (set v a y) b x 0 (omega (arith, length-set v a y, w.size)))
-      go (no nb) (yes e) = get_or-set_other (set v a y) b q x 0 nb ∙ rw (e, at_one a b) (get_or-set_same v a y 0 (omega (arith, w.size)))
-      go (no nb) (no na) = get_or-set_other (set v a y) b q x 0 nb ∙ get_or-set_other v a q y 0 na ∙ sym (ap (λ (p : ℕ). get_or v p 0) (at_none a b q na nb))
+  unfolding exchanged
+  inverse_stores q lq = grind (arith, common_steps, nat_tests, w.size)
 
   pub exchange_paired : Paired (map (exchanged a b) t) (set (set v a y) b x)
   exchange_paired =
@@ -87,17 +84,12 @@ module _ (t v : List ℕ) (w : Paired t v) (a b : ℕ) (la : a < length t) (lb :
 
 -- ---- on n lines
 
-pub present : (n : ℕ) (t v : List ℕ) → n ≤ 6 → Inverted (3 ^ n) t v → Present n t v
-present n t v lines w =
+pub inverted_paired : (n : ℕ) (t v : List ℕ) → Inverted (3 ^ n) t v → Paired t v
+inverted_paired n t v w =
     record {
-      lines = lines;
-      size = w.perm.size;
-      pair =
-          record {
-            size = w.size ∙ sym w.perm.size;
-            there = λ p lp. (omega (arith, w.perm.size, w.perm.within p (omega (arith, w.perm.size))), w.back p (omega (arith, w.perm.size)));
-            back = λ q lq. back q (omega (arith, w.size));
-          };
+      size = w.size ∙ sym w.perm.size;
+      there = λ p lp. (omega (arith, w.perm.size, w.perm.within p (omega (arith, w.perm.size))), w.back p (omega (arith, w.perm.size)));
+      back = λ q lq. back q (omega (arith, w.size));
     }
   where
     back : (q : ℕ) → q < 3 ^ n → (get_or v q 0 < length v) × (get_or t (get_or v q 0) 0 ≡ q)
@@ -106,15 +98,14 @@ present n t v lines w =
         let row : get_or v q 0 ≡ o.0 = ap (λ (p : ℕ). get_or v p 0) (sym o.2) ∙ w.back o.0 o.1 in
         rw row (omega (arith, w.size, o.1), o.2)
 
-module _ (n : ℕ) (t v : List ℕ) (w : Present n t v) where
-  -- a table that has an inverse is a permutation
-  pub present_permutation : Permutation (3 ^ n) t
-  present_permutation =
-      record {
-        size = w.size;
-        within = λ p lp. omega (arith, w.size, (w.pair.there p (omega (arith, w.size))).0);
-        apart = λ p q lp lq e. sym (w.pair.there p (omega (arith, w.size))).1 ∙ ap (λ (x : ℕ). get_or v x 0) e ∙ (w.pair.there q (omega (arith, w.size))).1;
-      }
+pub present : (n : ℕ) (t : List ℕ) → n ≤ 6 → Permutation (3 ^ n) t → Present n t
+present n t lines w = record { lines = lines; size = w.size; within = w.within }
 
-pub same_sizes : (n : ℕ) (t v t' v' : List ℕ) → Present n t v → Present n t' v' → (length t' ≡ length t) × (length v' ≡ length v)
-same_sizes n t v t' v' w w' = let same = w'.size ∙ sym w.size in (same, w'.pair.size ∙ same ∙ sym w.pair.size)
+-- two values exchanged
+pub present_exchanged : (n : ℕ) (t : List ℕ) (a b : ℕ) → Present n t → a < 3 ^ n → b < 3 ^ n → Present n (map (exchanged a b) t)
+present_exchanged n t a b w la lb =
+    record {
+      lines = w.lines;
+      size = length-map t (exchanged a b) ∙ w.size;
+      within = λ p lp. rw (map_at (exchanged a b) t p 0 0 (omega (arith, w.size))) (exchanged_lt a b (3 ^ n) la lb (get_or t p 0) (w.within p lp));
+    }

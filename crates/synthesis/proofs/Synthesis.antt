@@ -1,12 +1,8 @@
 -- What the cascade of a permutation is worth: it computes the table (`synthesized_computes`), each of its gates is one on n lines
 -- (`synthesized_cascade`), reversed and inverted it computes the inverse table (`synthesized_undone`), and it has no more gates than the bound
 -- (`synthesized_bound`). These are the procedure's theorems for the ternary family. Assumes nothing.
-use mathlib.Core.Path.{◌≡◌, sym, ap, ◌∙◌}
-use mathlib.Core.List.{List}
-use Prim.Native.Nat.{ℕ, zero, suc, ◌+◌, ◌-◌, ◌*◌, ◌/◌, ◌^◌, ◌≤◌, ◌<◌}
-use native.Mathlib.Nat.{suc-mul, mul-le-mul, pow-le-pow_right}
-use native.Mathlib.Omega.{arith}
-use lib.ListN.{length, get_or}
+use Rattle.std.proofs.Common.{◌≡◌, sym, ap, ◌∙◌, List, ℕ, zero, suc, ◌+◌, ◌-◌, ◌*◌, ◌/◌, ◌^◌, ◌≤◌, ◌<◌, suc-mul, mul-le-mul, arith, length, get_or}
+use Rattle.std.proofs.Math.Nat.{pow-le-pow_right}
 use Rattle.ranges.specs.Lists.{Each}
 use Rattle.ranges.proofs.Lists.{each_imp}
 use Rattle.digits.proofs.Sizes.{three_pos}

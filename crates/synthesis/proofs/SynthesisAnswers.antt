@@ -1,12 +1,7 @@
 -- The cases of the answer of synthesis, each with what it leaves in the room. Assumes nothing.
-use mathlib.Core.Path.{◌≡◌, sym, ◌∙◌}
-use mathlib.Core.List.{List, [], ◌∷◌}
-use Prim.Native.Nat.{ℕ, ◌*◌, ◌/◌, ◌≤◌, ◌<◌}
-use native.Mathlib.Omega.{arith}
-use lib.ListN.{length}
-use borrow.Author.Tests.{lt-ltb, le-ltb}
+use Rattle.std.proofs.Common.{◌≡◌, sym, ◌∙◌, List, [], ◌∷◌, ℕ, ◌*◌, ◌/◌, ◌≤◌, ◌<◌, arith, length, lt-ltb, le-ltb}
 use Rattle.card.specs.Card.{Answer.accepted, Answer.refused, laid}
-use Rattle.card.proofs.Cards.{lines_are, refusing_yes, refusing_no, refused_both, accepted_both}
+use Rattle.card.proofs.Cards.{lines_are, refusing_yes, refusing_no, accepted_both}
 use Rattle.tables.specs.Tables.{check_table_answer}
 use Rattle.tables.proofs.Accepts.{checked_refused, checked_accepted, accepted_permutation}
 use Rattle.cascades.specs.Cascades.{bytes_of}
@@ -15,18 +10,16 @@ use Rattle.synthesis.proofs.Synthesis.{synthesized_bound}
 
 module _ (n : ℕ) (t room : List ℕ) where
   -- 1 2 3 4
-  pub refused_table : (k p : ℕ) → refused k p ≡ check_table_answer n t → record { answer : refused k p ≡ synthesize_answer n t (length room); room_after : room ≡ synthesize_room n t room }
-  unfolding synthesize_answer synthesize_room
-  refused_table k p e = refused_both _ k p _ room (checked_refused n t k p (sym e) _)
+  pub refused_table : (k p : ℕ) → refused k p ≡ check_table_answer n t → synthesize_answer n t (length room) ≡ refused k p
+  unfolding synthesize_answer
+  refused_table k p e = checked_refused n t k p (sym e) _
 
   module _ (e : accepted [] ≡ check_table_answer n t) where
     -- 5
-    pub refused_room : (most : ℕ) → most ≡ bound n → length room / 8 < most
-        → record { answer : refused 5 most ≡ synthesize_answer n t (length room); room_after : room ≡ synthesize_room n t room }
-    unfolding synthesize_answer synthesize_room
+    pub refused_room : (most : ℕ) → most ≡ bound n → length room / 8 < most → synthesize_answer n t (length room) ≡ refused 5 most
+    unfolding synthesize_answer
     refused_room most is_bound lt =
-        refused_both _ 5 most _ room
-        (checked_accepted n t (sym e) _ ∙ rw is_bound (refusing_yes _ 5 (bound n) _ (lt-ltb (length room / 8) (bound n) (omega (arith, is_bound, lt)))))
+        checked_accepted n t (sym e) _ ∙ rw is_bound (refusing_yes _ 5 (bound n) _ (lt-ltb (length room / 8) (bound n) (omega (arith, is_bound, lt))))
 
     module _ (most : ℕ) (is_bound : most ≡ bound n) (le : most ≤ length room / 8) where
       -- the cascade has room

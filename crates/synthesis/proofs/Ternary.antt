@@ -1,11 +1,7 @@
 -- The gates of the procedure are a family of exchanges, on up to six lines: a gate that controls every other line changes exactly two patterns.
 -- Assumes nothing.
-use mathlib.Core.Path.{◌≡◌, refl, sym, ap, ◌∙◌}
-use mathlib.Core.Logic.{⊎_elim}
-use mathlib.Core.Bool.{true, false}
-use Prim.Native.Nat.{ℕ, ◌^◌, ◌≤◌, ◌<◌}
-use native.Mathlib.Decide.{ℕ_discrete}
-use borrow.Author.Tests.{le-ltb}
+use Rattle.std.proofs.Common.{◌≡◌, refl, sym, ap, ◌∙◌, ⊎_elim, true, false, ℕ, ◌^◌, ◌≤◌, ◌<◌, le-ltb}
+use Rattle.std.proofs.Math.Decide.{ℕ_discrete}
 use Rattle.ranges.proofs.Bools.{decide}
 use Rattle.digits.specs.Digits.{digit, put}
 use Rattle.digits.proofs.Digits.{digit_lt, digit_put_same, digit_put_other, put_same, put_lt, digits_equal}

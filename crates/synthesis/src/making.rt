@@ -1,36 +1,50 @@
 // The gate that is added for a digit, and the controls that it is made from.
-ghost use Rattle.std.specs.Prelude.{◌≡◌, ℕ, ◌≤◌, ◌<◌, length};
+ghost use Rattle.std.specs.Prelude.{◌≡◌, ℕ, ◌^◌, ◌≤◌, ◌<◌};
 ghost use Rattle.synthesis.specs.Synthesis.{exchanger, gate_for};
-ghost use Rattle.synthesis.specs.Inner.TableSteps.{full_controls, PatternNames, GateParts};
+ghost use Rattle.synthesis.specs.Inner.TableSteps.{full_controls, NamesBelow, GateParts};
 
 use gates::Gate;
 
-// The operator among N, D, E that exchanges two digit values.
+// The operator among N, D, E that exchanges two digit values: its number, as the record of a gate has it (document 01).
 fn exchanger_of(x: u16, y: u16) -> u8
     requires { (x < 3) × (y < 3) }
     ensures { result ≡ exchanger x y }
 {
-    if x + y == 2 {
-        return 3;
+    match x + y {
+        2 => 3,
+        3 => 4,
+        _ => 5,
     }
-    if x + y == 3 {
-        return 4;
-    }
-    5
 }
 
-// The controls that name each pattern on n lines, made once for all gates: its digits, and none, 3, from line n up. A line has two bits, so that the
-// bits below 0x1000 are those of six lines, and those from bit 2 n up are set for none.
-pub fn name_patterns(n: usize, full: &mut [u16])
-    requires { (n ≤ 6) × (length full.old ≡ 729) }
-    ensures { PatternNames n full.new }
-{
-    let size = digits::power(n) as usize;
-    let none: u16 = 0x1000 - (1 << (2 * n));
-    let mut p: usize = 0;
-    while p < size {
-        full[p] = gates::quads::quad_of(p as u16) + none;
-        p += 1;
+// The controls that name each pattern on some lines, made once for all gates: its digits, and none, 3, from the line after these up.
+#[derive(Drop)]
+pub struct PatternNames {
+    lines: usize,
+    controls: [u16; 729],
+    ghost named: { NamesBelow lines (3 ^ lines) controls },
+}
+
+impl PatternNames {
+    // A line has two bits, so that the bits below 0x1000 are those of six lines, and those from bit 2 n up are set for none.
+    pub fn new(n: usize) -> PatternNames
+        requires { n ≤ 6 }
+        ensures { result.lines ≡ n }
+    {
+        let none: u16 = 0x1000 - (1 << (2 * n));
+        let mut controls = [0u16; 729];
+        for p in 0..digits::power(n) {
+            controls[p as usize] = gates::quads::quad_of(p) + none;
+        }
+        PatternNames { lines: n, controls }
+    }
+
+    // The controls that name pattern p.
+    pub fn name(&self, p: u16) -> u16
+        requires { p < 3 ^ self.now.lines }
+        ensures { result ≡ full_controls self.now.lines p }
+    {
+        self.controls[p as usize]
     }
 }
 

@@ -1,10 +1,14 @@
 // One row of the procedure, gate by gate. The inverse is kept beside the table, so that a gate exchanges two values in each and looks at no others.
-// A gate is laid down as a word right before the one found last, since the last gate found is the first of the cascade.
-ghost use Rattle.std.specs.Prelude.{◌≡◌, map, ℕ, ◌^◌, ◌≤◌, ◌<◌, length};
+ghost use Rattle.std.specs.Prelude.{◌≡◌, map, ◌<◌, length, slice_index};
 ghost use Rattle.procedure.specs.Inner.Exchanges.{exchanged};
-ghost use Rattle.synthesis.specs.Inner.TableSteps.{row_from, Paired, TableReached, LowestLine, RowToSettle, WordsLaid};
+ghost use Rattle.synthesis.specs.Inner.TableSteps.{Paired, RowToSettle, RowSettled};
 
-// Two values change places in a table and in its inverse.
+use crate::laying::GateWords;
+use crate::making::{PatternNames, gate_for};
+use std::marker::Model;
+
+// Two values change places in a table and in its inverse. Four stores: the library's `swap` compares its places first, and with it six lines take a tenth
+// more instructions.
 pub fn exchange(table: &mut [u16], inverse: &mut [u16], a: u16, b: u16)
     requires { Paired table.old inverse.old × (a < length table.old) × (b < length table.old) }
     ensures table_after { table.new ≡ map (exchanged a b) table.old }
@@ -18,45 +22,68 @@ pub fn exchange(table: &mut [u16], inverse: &mut [u16], a: u16, b: u16)
     inverse[b as usize] = x;
 }
 
-// The first line on which left has a digit other than 0.
-fn find_line(left: u16) -> usize
-    requires { (0 < left) × (left < 4 ^ 6) }
-    ensures { LowestLine left result }
-{
-    (u16::trailing_zeros(left) / 2) as usize
+// A table and its inverse, which stay inverse to each other. Contracts see the table.
+#[derive(Drop)]
+pub struct Pairing<'a> {
+    table: &'a mut [u16],
+    inverse: &'a mut [u16],
 }
 
-// Row i: the words of its gates, laid before a place. Says where the words begin now.
+impl<'a> Model for Pairing<'a> {
+    ghost use Rattle.std.specs.Prelude.{List, ℕ};
+    ghost use Rattle.synthesis.specs.Inner.TableSteps.{Paired};
+
+    ghost Value = { List ℕ };
+
+    ghost view = { λ a. a.table.now };
+
+    ghost invariant = { λ a. Paired a.table.now a.inverse.now };
+}
+
+impl<'a> Pairing<'a> {
+    pub fn new(table: &'a mut [u16], inverse: &'a mut [u16]) -> Pairing<'a>
+        requires { Paired table.old inverse.old }
+        ensures { result ≡ table.old }
+    {
+        Pairing { table, inverse }
+    }
+
+    // Entry i.
+    pub fn entry(&self, i: u16) -> u16
+        requires { i < length self.now }
+        ensures { result ≡ slice_index self.now i }
+    {
+        self.table[i as usize]
+    }
+
+    // Two values change places.
+    pub fn exchange(&mut self, a: u16, b: u16)
+        requires { (a < length self.old) × (b < length self.old) }
+        ensures { self.new ≡ map (exchanged a b) self.old }
+    {
+        exchange(self.table, self.inverse, a, b);
+    }
+}
+
+// Row i: its gates are applied to the table, and their words laid.
 // A turn for each gate: `left` has a bit for each line on which the present entry a and i differ, the lower of its two
 // (0x555 has these for six lines), and on these a is as it came.
-pub fn find_row(
-    i: usize,
-    full: &[u16],
-    table: &mut [u16],
-    inverse: &mut [u16],
-    words: &mut [u64],
-    end: usize,
-) -> usize
-    requires row_to_settle { RowToSettle i full.now table.old inverse.old end }
-    requires end_in_bounds { end ≤ length words.old }
-    ensures by_index { (n : ℕ) → length table.old ≡ 3 ^ n → WordsLaid (row_from n i n table.old).found result end words.old words.new }
-    ensures by_index_2 { (n : ℕ) → length table.old ≡ 3 ^ n → TableReached n (row_from n i n table.old) table.new inverse.new }
+pub fn find_row(i: u16, names: &PatternNames, table: &mut Pairing, words: &mut GateWords)
+    requires { RowToSettle names.now.lines i table.old words.old }
+    ensures { RowSettled names.now.lines i table.old words.old table.new words.new }
 {
-    let mut a = table[i];
-    let from = full[a as usize];
-    let to = full[i];
+    let mut a = table.entry(i);
+    let from = names.name(a);
+    let to = names.name(i);
     let differ = from ^ to;
     let mut left = (differ | (differ >> 1)) & 0x555;
-    let mut start = end;
     while left != 0 {
-        let k = find_line(left);
+        let k = gates::controls::find_line(left);
         let d = gates::controls::control_on(to, k);
         let b = digits::with_digit(a, k, gates::controls::control_on(from, k), d);
-        start -= 1;
-        words[start] = gates::words::word_of(crate::making::gate_for(k, full[a as usize], d));
-        exchange(table, inverse, a, b);
+        words.lay(gates::words::word_of(gate_for(k, names.name(a), d)));
+        table.exchange(a, b);
         a = b;
         left &= left - 1;
     }
-    start
 }

@@ -14,7 +14,10 @@ use Rattle.ranges.specs.Ranges.{first}
 use Rattle.ranges.proofs.Bools.{decide, clash}
 use Rattle.ranges.proofs.Counts.{lt_or_le}
 use Rattle.ranges.proofs.Tests.{some_none, some_not}
+use Rattle.std.proofs.Common.{Some, None, position, leb}
+use Rattle.ranges.specs.Inner.Places.{found_at}
 use Rattle.ranges.proofs.Searches.{found}
+use Rattle.ranges.proofs.Places.{position_first, found_some, found_none}
 use Rattle.card.specs.Card.{Answer, Answer.accepted, Answer.refused, refusing, lines_ok, on_lines}
 use Rattle.card.proofs.Cards.{refusing_yes, refusing_no, refusing_passed, good_lines}
 use Rattle.card.proofs.Fronts.{Front, front, front_of, front_lines, front_refused}
@@ -112,21 +115,38 @@ module _ (m : ℕ) (t : List ℕ) where
   pub check_size : (length t ≡ m → ⊥) → refused 2 0 ≡ on_table m t (accepted [])
   check_size ne = sym (on_table_size (accepted []) ne)
 
+  -- what the search for an entry that is too large has found
+  pub large_at : position (λ x. leb m x) t ≡ found_at (length t) (first_large m t)
+  unfolding first_large too_large
+  large_at = position_first (leb m) 0 t
+
   module _ (size : length t ≡ m) where
-    pub check_large : (i : ℕ) → i ≡ first_large m t → i < length t → refused 3 i ≡ on_table m t (accepted [])
-    check_large i e lt = ap (refused 3) e ∙ sym (on_table_large (accepted []) size (lt-ltb (first_large m t) (length t) (omega arith)))
+    pub check_large : (i : ℕ) → Some i ≡ position (λ x. leb m x) t → refused 3 i ≡ on_table m t (accepted [])
+    check_large i e =
+        let f = found_some _ _ i (e ∙ large_at) in
+        ap (refused 3) f.0 ∙ sym (on_table_large (accepted []) size (lt-ltb (first_large m t) (length t) f.1))
 
-    module _ (i : ℕ) (e : i ≡ first_large m t) (ge : length t ≤ i) (j : ℕ) (f : j ≡ first_repeated t) where
+    module _ (small : None ≡ position (λ x. leb m x) t) where
       few : ltb (first_large m t) (length t) ≡ false
-      few = le-ltb (first_large m t) (length t) (omega arith)
+      few = le-ltb (first_large m t) (length t) (found_none _ _ (small ∙ large_at))
 
-      pub check_repeated : j < length t → refused 4 j ≡ on_table m t (accepted [])
-      check_repeated lt = ap (refused 4) f ∙ sym (on_table_repeated (accepted []) size few (lt-ltb (first_repeated t) (length t) (omega arith)))
+      pub check_below : (p : ℕ) → p < length t → get_or t p 0 < m
+      check_below = entries_below few
 
-      pub check_none : length t ≤ j → (accepted [] ≡ on_table m t (accepted [])) × Permutation m t
-      check_none le =
-          let none = le-ltb (first_repeated t) (length t) (omega arith) in
-          (sym (on_table_none (accepted []) size few none), permutation_of size few none)
+      pub check_repeated : (j : ℕ) → Some j ≡ found_at (length t) (first_repeated t) → refused 4 j ≡ on_table m t (accepted [])
+      check_repeated j e =
+          let f = found_some _ _ j e in
+          ap (refused 4) f.0 ∙ sym (on_table_repeated (accepted []) size few (lt-ltb (first_repeated t) (length t) f.1))
+
+      module _ (apart : None ≡ found_at (length t) (first_repeated t)) where
+        none_repeats : ltb (first_repeated t) (length t) ≡ false
+        none_repeats = le-ltb (first_repeated t) (length t) (found_none _ _ apart)
+
+        pub check_none : accepted [] ≡ on_table m t (accepted [])
+        check_none = sym (on_table_none (accepted []) size few none_repeats)
+
+        pub check_permutation : Permutation m t
+        check_permutation = permutation_of size few none_repeats
 
 -- ---- with refusal 1, on n lines
 

@@ -60,6 +60,10 @@ module _ (t v : List ℕ) (i : ℕ) (w : Inverting t v i) (lt : i < length t) wh
 pub inverting_all : (t v : List ℕ) (i : ℕ) → Inverting t v i → length t ≤ i → i ≡ first_repeated t
 inverting_all t v i w le = sym (first_ends (repeated t) (length t) i le) ∙ w.left
 
+-- the pass ends at the first entry that equals an earlier one
+pub back_there : (t v : List ℕ) (i : ℕ) → Inverting t v i → i ≡ first_repeated t → Back t v (first_repeated t)
+back_there t v i w e = rw (← e) w.back
+
 -- a permutation whose values all lead back is inverted, in the part of the array that has its size
 pub inverted : (m : ℕ) (t v : List ℕ) (i : ℕ) → Permutation m t → m ≤ length v → length t ≤ i → Back t v i → Inverted m t (take m v)
 inverted m t v i w room all back =

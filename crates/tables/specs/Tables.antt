@@ -1,13 +1,7 @@
 -- Which tables are accepted: refusals 1, 2, 3 and 4. A table is for so many patterns: 3 ^ n on n lines.
 use Rattle.std.specs.Prelude.{ℕ, ◌^◌, Bool, not, List, [], eqb, leb, ltb, length, get_or}
 use Rattle.ranges.specs.Ranges.{some, first}
-use Rattle.card.specs.Card.{Answer, Answer.accepted, Answer.refused, refusing, on_lines}
-use Rattle.tables.specs.declared.Checked.{Checked}
-
--- the document's number and place for each case of the answer
-abbrev pub checked_as : Checked → Answer
-checked_as Checked.Accepted = accepted []
-checked_as (Checked.Refused k p) = refused k p
+use Rattle.card.specs.Card.{Answer, Answer.accepted, refusing, on_lines}
 
 -- entry i is no pattern: it is the number of patterns or more
 unfoldable pub too_large : ℕ → List ℕ → ℕ → Bool

@@ -1,5 +1,5 @@
+pub mod MadeArrays
 pub mod PlaneBits
-pub mod PlaneStores
 pub mod PlaneTurns
 pub mod UntouchedPlanes
 pub mod ShownPlanes

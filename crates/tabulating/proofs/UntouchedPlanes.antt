@@ -1,80 +1,53 @@
--- The planes of inputs that no gate has touched: `untouched_start`, `untouched_next` and `untouched_shows` are the start, one turn and the end of the
--- loop over inputs and lines that makes them. Assumes nothing.
-use mathlib.Core.Path.{◌≡◌, refl, sym, ◌∙◌}
-use mathlib.Core.Bool.{true, or-true, or-false}
-use mathlib.Core.List.{List}
-use Prim.Native.Nat.{ℕ, ◌+◌, ◌*◌, ◌/◌, ◌%◌, ◌^◌, ◌≤◌, ◌<◌}
-use native.Mathlib.Decide.{ℕ_discrete}
-use native.Mathlib.Omega.{arith}
-use lib.Bits.{bit_or}
-use lib.ListN.{length, get_or, length-set}
-use borrow.Author.Tests.{eq-eqb, ne_eqb}
+-- The planes of inputs that no gate has touched: `untouched_start`, `untouched_next` and `untouched_shows` are the start, one turn for a line and the end of
+-- the loop that makes them. Assumes nothing.
+use Rattle.std.proofs.Common.{◌≡◌, refl, ◌∙◌, ◌&&◌, ◌||◌, List, [], ◌∷◌, ℕ, zero, suc, ◌+◌, ◌≤◌, ◌<◌, ◌⊎◌, inl, inr, length, get_or, set, replicate, eqb, ltb, lt-ltb, le-ltb, eq-eqb, ne_eqb, arith}
+use Rattle.std.proofs.Math.Bool.{or-false, and-true, and-false}
+use Rattle.std.proofs.Math.Decide.{ℕ_discrete}
+use Rattle.std.proofs.lemmas.List.{get_or-replicate, get_or-set_same, get_or-set_other}
+use Rattle.ranges.proofs.Counts.{lt_or_le}
 use Rattle.digits.specs.Digits.{digit}
+use Rattle.digits.proofs.Digits.{digit_lt}
 use Rattle.gates.specs.Gates.{holds}
-use Rattle.tabulating.specs.Inner.Planes.{AllPlanes, member, Shows, with_input, ShownUpTo}
-use Rattle.tabulating.proofs.PlaneBits.{on_or, on_zero, on_here, on_there}
-use Rattle.tabulating.proofs.PlaneStores.{set_here, set_else}
+use Rattle.tabulating.specs.Inner.Planes.{member, LineUpTo, ShownUpTo, Shows}
+use Rattle.tabulating.proofs.PlaneBits.{all_in, none_in}
 
-pub untouched_start : (b : List ℕ) → AllPlanes b → ((i : ℕ) → i < length b → get_or b i 0 ≡ 0) → ShownUpTo b 0
-untouched_start b long zeros =
+-- a line's planes before any input
+abbrev pub bare_line : List (List ℕ)
+bare_line = replicate 12 0 ∷ replicate 12 0 ∷ replicate 12 0 ∷ replicate 12 0xffff_ffff_ffff_ffff ∷ []
+
+bare_up_to : (k : ℕ) → LineUpTo k bare_line 0
+bare_up_to k zero q lc lq = rw (none_in q (omega arith), le-ltb q 0 (omega arith))
+bare_up_to k (suc zero) q lc lq = rw (none_in q (omega arith), le-ltb q 0 (omega arith))
+bare_up_to k (suc (suc zero)) q lc lq = rw (none_in q (omega arith), le-ltb q 0 (omega arith))
+bare_up_to k (suc (suc (suc zero))) q lc lq = rw (all_in q (omega arith))
+bare_up_to k (suc (suc (suc (suc c)))) q lc lq = absurd (omega arith)
+
+pub untouched_start : ShownUpTo (replicate 6 bare_line) 0
+untouched_start k lk = rw (get_or-replicate 6 k bare_line [] lk) (bare_up_to k)
+
+-- input p joins a plane of a line
+pub plane_joined : (line : List (List ℕ)) (d p : ℕ) (new : List ℕ) → d < length line → ((q : ℕ) → q < 729 → member new q ≡ (member (get_or line d []) q || eqb q p))
+    → (c q : ℕ) → q < 729 → member (get_or (set line d new) c []) q ≡ (member (get_or line c []) q || eqb c d && eqb q p)
+plane_joined line d p new lt joined c q lq = go (ℕ_discrete c d)
+  where
+    go : Dec (c ≡ d) → member (get_or (set line d new) c []) q ≡ (member (get_or line c []) q || eqb c d && eqb q p)
+    go (yes e) = rw (e, get_or-set_same line d new [] lt, eq-eqb d d refl) (joined q lq)
+    go (no ne) = rw (get_or-set_other line d c new [] ne, ne_eqb c d ne, or-false)
+
+-- it joins the plane for what it holds on line k
+pub untouched_next : (k p x : ℕ) (old new : List (List ℕ)) → x ≡ digit 3 k p
+    → ((c q : ℕ) → q < 729 → member (get_or new c []) q ≡ (member (get_or old c []) q || eqb c x && eqb q p)) → LineUpTo k old p → LineUpTo k new (p + 1)
+untouched_next k p x old new holding joined up c q lc lq = joined c q lq ∙ rw (up c q lc lq) (go (ℕ_discrete q p) (lt_or_le q p))
+  where
+    go : Dec (q ≡ p) → (q < p) ⊎ (p ≤ q) → ((eqb c 3 || ltb q p && eqb c (digit 3 k q)) || eqb c x && eqb q p) ≡ (eqb c 3 || ltb q (p + 1) && eqb c (digit 3 k q))
+    go (yes e) _ = rw (e, le-ltb p p (omega arith), lt-ltb p (p + 1) (omega arith), eq-eqb p p refl, holding, and-true, or-false)
+    go (no ne) (inl lt) = rw (ne_eqb q p ne, lt-ltb q p lt, lt-ltb q (p + 1) (omega arith), and-false, or-false)
+    go (no ne) (inr le) = rw (ne_eqb q p ne, le-ltb q p le, le-ltb q (p + 1) (omega arith), and-false, or-false)
+
+pub untouched_shows : (n : ℕ) (b : List (List (List ℕ))) (t : ℕ) → n ≤ 729 → n ≤ t → ShownUpTo b t → Shows n b (λ p. p)
+unfolding holds
+untouched_shows n b t few all laid =
     record {
-      known = λ k c p lk lc lp lt. absurd (omega arith);
-      clear = λ k c p lk lc lp le. rw (zeros (12 * (4 * k + c) + p / 64) (omega arith)) (on_zero _);
+      few = few;
+      line = λ k lk. record { few = few; low = λ p. digit_lt 3 k p (omega arith); plane = λ c lc p lp. laid k lk c p lc (omega arith) ∙ rw (lt-ltb p t (omega arith)) };
     }
-
-pub untouched_shows : (n : ℕ) (b : List ℕ) (t : ℕ) → n ≤ 729 → 6 * n ≤ t → ShownUpTo b t → Shows n b (λ p. p)
-untouched_shows n b t few all laid = record { few = few; plane = λ k c lk lc p lp. laid.known k c p lk lc (omega arith) (omega arith) }
-
--- ---- an input joins a plane
-
-module _ (b : List ℕ) (a p : ℕ) where
-  word_with : ℕ
-  word_with = bit_or (get_or b (12 * a + p / 64) 0) (2 ^ (p % 64))
-
-  input_in : 12 * a + p / 64 < length b → member (with_input b a p) a p ≡ true
-  unfolding word_with
-  input_in lt = set_here b (12 * a + p / 64) word_with a p lt refl ∙ rw (on_or, on_here, or-true)
-
-  input_elsewhere : (a' p' : ℕ) → 12 * a + p / 64 < length b → p < 729 → p' < 729 → (a' ≡ a → p' ≡ p → ⊥) → member (with_input b a p) a' p' ≡ member b a' p'
-  unfolding word_with
-  input_elsewhere a' p' lt lp lp' ne = go (ℕ_discrete (12 * a' + p' / 64) (12 * a + p / 64))
-    where
-      go : Dec (12 * a' + p' / 64 ≡ 12 * a + p / 64) → member (with_input b a p) a' p' ≡ member b a' p'
-      go (yes e) =
-          let other : p' % 64 ≡ p % 64 → ⊥ = λ q. ne (omega arith) (omega arith) in
-          set_here b (12 * a + p / 64) word_with a' p' lt e ∙ rw (on_or, on_there (p' % 64) (p % 64) other, e) (or-false _)
-      go (no d) = set_else b (12 * a + p / 64) word_with a' p' d
-
--- ---- it holds x on line k
-
-module _ (b : List ℕ) (k x p : ℕ) (long : AllPlanes b) (lk : k < 6) (lx : x < 3) (lp : p < 729) (holding : x ≡ digit 3 k p) (old : ShownUpTo b (6 * p + k)) where
-  abbrev new : List ℕ
-  new = with_input (with_input b (4 * k + x) p) (4 * k + 3) p
-
-  both_elsewhere : (a q : ℕ) → q < 729 → (a ≡ 4 * k + x → q ≡ p → ⊥) → (a ≡ 4 * k + 3 → q ≡ p → ⊥) → member new a q ≡ member b a q
-  both_elsewhere a q lq one two =
-      input_elsewhere (with_input b (4 * k + x) p) (4 * k + 3) p a q (simp length-set (omega arith)) lp lq two ∙ input_elsewhere b (4 * k + x) p a q (omega arith) lp lq one
-
-  here : (c : ℕ) → c < 4 → Dec (c ≡ 3) → Dec (c ≡ x) → member new (4 * k + c) p ≡ holds c (digit 3 k p)
-  unfolding holds
-  here c lc (yes q) d = rw q (input_in (with_input b (4 * k + x) p) (4 * k + 3) p (simp length-set (omega arith)))
-  here c lc (no n) (yes q) =
-      rw (q, ← holding, eq-eqb x x refl, or-true)
-      (input_elsewhere (with_input b (4 * k + x) p) (4 * k + 3) p (4 * k + x) p (simp length-set (omega arith)) lp lp (λ e _. omega arith)
-      ∙ input_in b (4 * k + x) p (omega arith))
-  here c lc (no n) (no m) =
-      both_elsewhere (4 * k + c) p lp (λ e _. m (omega arith)) (λ e _. n (omega arith)) ∙ old.clear k c p lk lc lp (omega arith) ∙ sym (rw (← holding, ne_eqb c 3 n, ne_eqb c x m))
-
-  pub untouched_next : ShownUpTo new (6 * p + (k + 1))
-  untouched_next =
-      record {
-        known = λ j c q lj lc lq lt. known j c q lj lc lq lt (ℕ_discrete (6 * q + j) (6 * p + k));
-        clear = λ j c q lj lc lq le. both_elsewhere (4 * j + c) q lq (λ e s. omega arith) (λ e s. omega arith) ∙ old.clear j c q lj lc lq (omega arith);
-      }
-    where
-      known : (j c q : ℕ) → j < 6 → c < 4 → q < 729 → 6 * q + j < 6 * p + (k + 1) → Dec (6 * q + j ≡ 6 * p + k) → member new (4 * j + c) q ≡ holds c (digit 3 j q)
-      known j c q lj lc lq lt (yes e) =
-          let line : j ≡ k = omega arith in
-          let input : q ≡ p = omega arith in
-          rw (line, input) (here c lc (ℕ_discrete c 3) (ℕ_discrete c x))
-      known j c q lj lc lq lt (no ne) = both_elsewhere (4 * j + c) q lq (λ e s. ne (omega arith)) (λ e s. ne (omega arith)) ∙ old.known j c q lj lc lq (omega arith)

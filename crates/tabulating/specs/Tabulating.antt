@@ -1,14 +1,8 @@
 -- What `tabulate` answers, with the refusals in the card's order, and what it leaves in a lent room.
 use Rattle.std.specs.Prelude.{ℕ, ◌^◌, List, [], ◌∷◌, ltb, length}
-use Rattle.card.specs.Card.{Answer, Answer.accepted, Answer.refused, refusing, on_lines, after, laid}
+use Rattle.card.specs.Card.{Answer, Answer.accepted, refusing, on_lines, after, laid}
 use Rattle.cascades.specs.Cascades.{gates_of, table_of}
 use Rattle.cascades.specs.Answers.{on_cascade}
-use Rattle.tabulating.specs.declared.Tabulated.{Tabulated}
-
--- the document's number and values for each case of the answer
-abbrev pub tabulated_as : Tabulated → Answer
-tabulated_as (Tabulated.Entries m) = accepted (m ∷ [])
-tabulated_as (Tabulated.Refused k p) = refused k p
 
 -- 1 6 7 5: a room of so many entries
 unfoldable pub tabulate_answer : ℕ → List ℕ → ℕ → Answer

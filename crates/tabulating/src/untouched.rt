@@ -1,39 +1,44 @@
 // The planes of inputs that no gate has touched: input p is pattern p.
-ghost use Rattle.std.specs.Prelude.{◌≡◌, ℕ, ◌+◌, ◌*◌, ◌≤◌, ◌<◌, length, get_or};
-ghost use Rattle.tabulating.specs.Inner.Planes.{AllPlanes, Shows, with_input, ShownUpTo};
+ghost use Rattle.std.specs.Prelude.{◌≡◌, ℕ, ◌+◌, ◌≤◌, ◌<◌, ◌||◌, ◌&&◌, eqb, get_or, []};
+ghost use Rattle.tabulating.specs.Inner.Planes.{member, Shows, ShownUpTo};
 
-// Input p joins plane a.
-fn add_input(planes: &mut [u64], a: usize, p: usize)
-    requires { AllPlanes planes.old × (a < 24) × (p < 729) }
-    ensures { planes.new ≡ with_input planes.old a p }
+use super::planes::{LinePlanes, Plane, Planes};
+
+// Input p joins a plane.
+fn add_input(plane: &mut Plane, p: usize)
+    requires { p < 729 }
+    ensures { (q : ℕ) → q < 729 → member plane.new q ≡ (member plane.old q || eqb q p) }
 {
-    let at = 12 * a + p / 64;
-    planes[at] = planes[at] | (1 << (p % 64));
+    plane[p / 64] |= 1 << (p % 64);
 }
 
-// Input p joins the planes for what each line holds, and those for none.
-fn lay_input(planes: &mut [u64], p: u16)
-    requires { AllPlanes planes.old × (p < 729) }
-    ensures { ShownUpTo planes.old (6 * p) → ShownUpTo planes.new (6 * (p + 1)) }
+// Input p joins the plane of a line for the digit that the line holds.
+fn add_to_line(line: &mut LinePlanes, digit: usize, p: usize)
+    requires { (digit < 4) × (p < 729) }
+    ensures { (c q : ℕ) → q < 729 → member (get_or line.new c []) q ≡ (member (get_or line.old c []) q || eqb c digit && eqb q p) }
+{
+    add_input(&mut line[digit], p);
+}
+
+// Input p joins on all lines.
+fn lay_input(planes: &mut Planes, p: u16)
+    requires { p < 729 }
+    ensures { ShownUpTo planes.old p → ShownUpTo planes.new (p + 1) }
 {
     let q = gates::quads::quad_of(p);
-    let mut line: usize = 0;
-    while line < 6 {
-        let digit = gates::controls::control_on(q, line) as usize;
-        add_input(planes, 4 * line + digit, p as usize);
-        add_input(planes, 4 * line + 3, p as usize);
-        line = line + 1;
+    for (k, line) in planes.iter_mut().enumerate() {
+        add_to_line(line, gates::controls::control_on(q, k) as usize, p as usize);
     }
 }
 
-// So many inputs join, one after the other.
-pub fn lay_inputs(planes: &mut [u64], count: u16)
-    requires { AllPlanes planes.old × ((i : ℕ) → i < length planes.old → get_or planes.old i 0 ≡ 0) × (count ≤ 729) }
-    ensures { Shows count planes.new (λ p. p) }
+// The planes of so many inputs, which join one after the other. A control that is none is content with all: its planes have every bit from the start.
+pub fn lay_inputs(count: u16) -> Planes
+    requires { count ≤ 729 }
+    ensures { Shows count result (λ p. p) }
 {
-    let mut p: u16 = 0;
-    while p < count {
-        lay_input(planes, p);
-        p = p + 1;
+    let mut planes = [[[0; 12], [0; 12], [0; 12], [u64::MAX; 12]]; 6];
+    for p in 0..count {
+        lay_input(&mut planes, p);
     }
+    planes
 }

@@ -1,15 +1,8 @@
 -- A gate's line laid out by whole words: a word that begins with a text appends it, and one text is appended to the other. Which words begin with
 -- which texts is computed. Assumes nothing.
-use mathlib.Core.Path.{◌≡◌, refl, sym, ap, ◌∙◌}
-use mathlib.Core.Bool.{Bool, true, false, cond, ◌&&◌}
-use mathlib.Core.List.{List, [], ◌∷◌, ◌++◌, append_assoc, append-nil}
-use Prim.Native.Nat.{ℕ, ◌+◌, ◌-◌, ◌*◌, ◌/◌, ◌%◌, ◌^◌, ◌≤◌, ◌<◌}
-use native.Mathlib.Nat.{zero-add}
-use native.Mathlib.Omega.{arith}
-use lib.Dec.{eqb}
-use lib.ListN.{length, get_or, set, drop, take, length-append}
-use lib.Seq.{sets, sets-eq, take_at, length-take-le, length-sets}
-use borrow.Author.Tests.{eqb-true}
+use Rattle.std.proofs.Common.{◌≡◌, refl, sym, ap, ◌∙◌, Bool, true, false, cond, ◌&&◌, List, [], ◌∷◌, ◌++◌, append_assoc, append-nil, ℕ, ◌+◌, ◌-◌, ◌*◌, ◌/◌, ◌%◌, ◌^◌, ◌≤◌, ◌<◌, zero-add, arith, eqb, length, set, drop, take, length-append, take_at, length-take-le, eqb-true}
+use Rattle.std.proofs.lemmas.List.Edits.{sets, sets-eq}
+use Rattle.std.proofs.Math.Seq.{length-sets}
 use Rattle.ranges.specs.Ranges.{first, span, every}
 use Rattle.ranges.proofs.Bools.{and_left, and_right, clash}
 use Rattle.ranges.proofs.Tests.{every_below}
@@ -24,9 +17,9 @@ use Rattle.cascades.specs.Inner.Checked.{Whole}
 use Rattle.texts.specs.Texts.{ascii, width, decimal, joined}
 use Rattle.texts.specs.GateTexts.{line_text, control_text}
 use Rattle.texts.specs.Inner.StoredTexts.{Appended}
-use Rattle.texts.specs.Inner.Names.{name_size, name_in, names_fit}
+use Rattle.texts.specs.Inner.Names.{name_of}
 use Rattle.texts.proofs.TextParts.{joined_snoc}
-use Rattle.texts.proofs.Names.{name_few, name_long, name_begins}
+use Rattle.texts.proofs.Names.{both, name_few, name_long, name_begins}
 
 -- ---- texts stored one behind the other
 
@@ -103,14 +96,13 @@ control_right_lem : (k c : ℕ) → k < 6 → c < 4 → control_right k c ≡ tr
 unfolding carries begins control_on line_text decimal width first span every digit bytes_in
 control_right_lem k c lt small = every_below (control_right k) 4 (every_below (λ k. every (control_right k) 0 4) 6 refl k lt) c small
 
--- the name's word, and behind the name the target's
-pub operator_put : (words : List ℕ) → names_fit words ≡ true → (o : ℕ) → o ≤ 5 → (t : ℕ) (line : List ℕ) → t ≤ 6 → length line ≡ 48
-    → Appended line 0 (name_in words o ++ line_text t) (sets (sets line 0 (bytes_in (get_or words o 0))) (name_size (get_or words o 0)) (bytes_in (line_word t))) (name_size (get_or words o 0) + 3)
-operator_put words fit o high t line lt long =
-    let word : ℕ = get_or words o 0 in
-    let named = append_run line 0 (bytes_in word) (name_in words o) _ (name_begins words fit o high) (omega (arith, length_word word, long)) in
-    append_next (rw (zero-add, ← name_long words fit o high) at named)
-    (append_word (line_word t) (line_text t) 3 (line_word_lem t lt) (sets line 0 (bytes_in word)) (name_size word) (omega (arith, name_few words fit o high, length-sets line 0 (bytes_in word), long)))
+-- both bytes of a name, and behind its letters the target's word
+pub operator_put : (name : List ℕ) (t : ℕ) (line : List ℕ) → t ≤ 6 → length line ≡ 48
+    → Appended line 0 (name_of name ++ line_text t) (sets (sets line 0 (both name)) (length (name_of name)) (bytes_in (line_word t))) (length (name_of name) + 3)
+operator_put name t line lt long =
+    let named = append_run line 0 (both name) (name_of name) _ (name_begins name) (omega (arith, long)) in
+    let few : length (name_of name) ≤ 2 = omega (arith, name_long name, name_few name) in
+    append_next (rw zero-add at named) (append_word (line_word t) (line_text t) 3 (line_word_lem t lt) (sets line 0 (both name)) (length (name_of name)) (omega (arith, few, length-sets line 0 (both name), long)))
 
 -- ---- a word that was read from a cascade
 

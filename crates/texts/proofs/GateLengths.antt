@@ -1,12 +1,5 @@
 -- How long the line of a gate is, and that no line has more than 31 bytes where no name has more than two letters. Assumes nothing.
-use mathlib.Core.Path.{◌≡◌, refl, ap, ◌∙◌}
-use mathlib.Core.Bool.{Bool, true, false, cond}
-use mathlib.Core.List.{List, [], ◌∷◌, ◌++◌}
-use Prim.Native.Nat.{ℕ, zero, suc, ◌+◌, ◌*◌, ◌%◌, ◌≤◌, ◌<◌}
-use native.Mathlib.Nat.{mul-suc}
-use native.Mathlib.Omega.{arith}
-use lib.Dec.{eqb}
-use lib.ListN.{length, length-append}
+use Rattle.std.proofs.Common.{◌≡◌, refl, ap, ◌∙◌, Bool, true, false, cond, List, [], ◌∷◌, ◌++◌, ℕ, zero, suc, ◌+◌, ◌*◌, ◌%◌, ◌≤◌, ◌<◌, mul-suc, arith, eqb, length, length-append}
 use Rattle.ranges.specs.Ranges.{sum, span}
 use Rattle.ranges.specs.Lists.{Each}
 use Rattle.ranges.proofs.Sums.{sum_ext, sum_le_but}

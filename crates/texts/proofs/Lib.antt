@@ -4,3 +4,4 @@ pub mod TextParts
 pub mod Names
 pub mod GateLengths
 pub mod Appends
+pub mod Walks

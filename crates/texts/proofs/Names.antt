@@ -1,40 +1,40 @@
--- The names in a table of words: each is as long as its highest byte says, and its word begins with it. Assumes nothing.
-use mathlib.Core.Path.{◌≡◌, sym, ap, ◌∙◌}
-use mathlib.Core.Bool.{true}
-use mathlib.Core.List.{List, ◌++◌}
-use Prim.Native.Nat.{ℕ, ◌≤◌}
-use native.Mathlib.Omega.{arith}
-use lib.Dec.{eqb, leb}
-use lib.ListN.{length, get_or, drop, take-append-drop, get_or-map}
-use lib.Seq.{length-take-le}
-use borrow.Author.Tests.{eqb-true, leb-true}
-use Rattle.ranges.proofs.Bools.{and_left, and_right}
-use Rattle.ranges.proofs.Tests.{every_below}
-use Rattle.gates.specs.Inner.Words.{bytes_in}
-use Rattle.gates.proofs.Bytes.{length_word}
-use Rattle.texts.specs.Inner.Names.{name_size, name_of, name_in, names_fit}
+-- The names in a table: each is as long as it has letters, at most two, and begins with them. Assumes nothing.
+use Rattle.std.proofs.Common.{◌≡◌, refl, sym, ap, Bool, true, false, cond, List, [], ◌∷◌, ◌++◌, ℕ, ◌+◌, ◌≤◌, eqb, length, get_or, drop, take, arith}
+use Rattle.std.proofs.lemmas.List.{get_or-map, take-append-drop}
+use Rattle.texts.specs.Inner.Names.{name_size, name_of, name_in}
 
-module _ (words : List ℕ) (fit : names_fit words ≡ true) where
-  pub names_six : length words ≡ 6
-  unfolding names_fit
-  names_six = eqb-true (length words) 6 (and_left (eqb (length words) 6) _ fit)
+-- both bytes of a name, as they are stored
+abbrev pub both : List ℕ → List ℕ
+both name = get_or name 0 0 ∷ get_or name 1 0 ∷ []
 
-  module _ (o : ℕ) (high : o ≤ 5) where
-    pub name_few : name_size (get_or words o 0) ≤ 2
-    unfolding names_fit
-    name_few = leb-true _ 2 (every_below (λ o. leb (name_size (get_or words o 0)) 2) 6 (and_right (eqb (length words) 6) _ fit) o (omega arith))
+module _ (name : List ℕ) where
+  pub name_long : length (name_of name) ≡ name_size name
+  unfolding name_of
+  name_long = go (eqb (get_or name 0 0) 32) (eqb (get_or name 1 0) 32)
+    where
+      go : (s t : Bool) → length (take (cond s 0 1 + cond t 0 1) (both name)) ≡ cond s 0 1 + cond t 0 1
+      go true true = refl
+      go true false = refl
+      go false true = refl
+      go false false = refl
 
-    name_is : name_in words o ≡ name_of (get_or words o 0)
-    unfolding name_in name_of
-    name_is = get_or-map name_of words o 0
+  pub name_few : name_size name ≤ 2
+  name_few = go (eqb (get_or name 0 0) 32) (eqb (get_or name 1 0) 32)
+    where
+      go : (s t : Bool) → cond s 0 1 + cond t 0 1 ≤ 2
+      go true true = omega arith
+      go true false = omega arith
+      go false true = omega arith
+      go false false = omega arith
 
-    pub name_long : name_size (get_or words o 0) ≡ length (name_in words o)
-    unfolding name_of
-    name_long = sym (ap length name_is ∙ length-take-le _ (bytes_in (get_or words o 0)) (omega (arith, name_few, length_word (get_or words o 0))))
+  pub name_begins : both name ≡ name_of name ++ drop (name_size name) (both name)
+  unfolding name_of
+  name_begins = sym (take-append-drop (name_size name) (both name))
 
-    pub name_short : length (name_in words o) ≤ 2
-    name_short = omega (arith, name_long, name_few)
+module _ (names : List (List ℕ)) (six : length names ≡ 6) (o : ℕ) (high : o ≤ 5) where
+  pub name_is : name_in names o ≡ name_of (get_or names o [])
+  unfolding name_in
+  name_is = get_or-map name_of names o [] [] (omega (arith, six))
 
-    pub name_begins : bytes_in (get_or words o 0) ≡ name_in words o ++ drop (name_size (get_or words o 0)) (bytes_in (get_or words o 0))
-    unfolding name_of
-    name_begins = sym (ap (λ (r : List ℕ). r ++ drop (name_size (get_or words o 0)) (bytes_in (get_or words o 0))) name_is ∙ take-append-drop (name_size (get_or words o 0)) (bytes_in (get_or words o 0)))
+  pub name_short : length (name_in names o) ≤ 2
+  name_short = omega (arith, ap length name_is, name_long (get_or names o []), name_few (get_or names o []))

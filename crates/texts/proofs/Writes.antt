@@ -1,55 +1,38 @@
--- A text that is stored piece by piece: `Writing` says what is left of it, at the start, after each piece and at the end. Assumes nothing.
-use mathlib.Core.Path.{◌≡◌, refl, ap, ◌∙◌}
-use mathlib.Core.List.{List, [], ◌∷◌, ◌++◌}
-use Prim.Native.Nat.{ℕ, ◌+◌, ◌≤◌}
-use native.Mathlib.Nat.{add-zero}
-use native.Mathlib.Omega.{arith}
-use lib.ListN.{length, set, length-append}
-use lib.Seq.{sets, length-sets}
+-- A text that is stored piece by piece: two pieces, one behind the other, are their text, and where that fits each of them does. Assumes nothing.
+use Rattle.std.proofs.Common.{◌≡◌, refl, sym, ap, ◌∙◌, List, [], ◌++◌, ℕ, ◌+◌, ◌≤◌, arith, length, length-append}
+use Rattle.std.proofs.lemmas.List.Edits.{sets, sets-eq}
+use Rattle.std.proofs.Math.Seq.{length-sets, take-length}
+use borrow.Rule.Slice.PartMut.{put_mid}
+use Rattle.std.proofs.lemmas.Slice.{put_mid-paste}
 use Rattle.ranges.proofs.Stores.{sets_append}
-use Rattle.texts.specs.Inner.StoredTexts.{Stored}
+use Rattle.texts.specs.declared.storing.Writer.{Writer}
+use Rattle.texts.specs.Inner.StoredTexts.{HasRoom, Wrote}
 
--- the text goes to place at of room₀; what is left of it goes to place to of room
-pub record Writing (room₀ : List ℕ) (at : ℕ) (text room : List ℕ) (to : ℕ) (left : List ℕ) : Type 0 where
-  pub same : sets room to left ≡ sets room₀ at text
-  pub ahead : to + length left ≡ at + length text
-  pub long : length room ≡ length room₀
+-- a part of a room that now holds a text
+pub stored_part : (room : List ℕ) (at k : ℕ) (text : List ℕ) → k ≡ length text → at + length text ≤ length room → put_mid at k room text ≡ sets room at text
+stored_part room at k text e fits =
+    put_mid-paste at k room text text (length text) refl (sym e) refl ∙ rw take-length (sym (sets-eq text room at fits))
 
-pub stored_long : {room text now : List ℕ} {at next : ℕ} → Stored room at text now next → length now ≡ length room
-stored_long {room} {text} {now} {at} w = ap length w.bytes ∙ length-sets room at text
+pub wrote_none : (out : Writer) → Wrote out [] out
+wrote_none out = record { same = refl; stored = record { bytes = refl; behind = omega arith } }
 
-pub stored_byte : (room : List ℕ) (at v : ℕ) → Stored room at (v ∷ []) (set room at v) (at + 1)
-stored_byte room at v = record { bytes = refl; behind = refl }
+module _ {out : Writer} {piece : List ℕ} {mid : Writer} (w : Wrote out piece mid) where
+  pub wrote_long : length mid.room.now ≡ length out.room.now
+  wrote_long = ap length w.stored.bytes ∙ length-sets out.room.now out.at piece
 
-pub writing_start : (room : List ℕ) (at : ℕ) (text : List ℕ) → Writing room at text room at text
-writing_start room at text = record { same = refl; ahead = refl; long = refl }
-
-module _ {room₀ : List ℕ} {at : ℕ} {text : List ℕ} where
-  pub writing_next : {room piece left now : List ℕ} {to next : ℕ} → Writing room₀ at text room to (piece ++ left) → Stored room to piece now next
-      → Writing room₀ at text now next left
-  writing_next {room} {piece} {left} {now} {to} {next} g w =
+  pub wrote_both : {next : List ℕ} {after : Writer} → Wrote mid next after → Wrote out (piece ++ next) after
+  wrote_both {next} {after} v =
       record {
-        same = rw (w.bytes, w.behind, ← sets_append piece left room to) g.same;
-        ahead = omega (arith, w.behind, g.ahead, length-append piece left);
-        long = stored_long w ∙ g.long;
+        same = v.same ∙ w.same;
+        stored =
+            record {
+              bytes = v.stored.bytes ∙ rw (w.stored.bytes, w.stored.behind) (sym (sets_append piece next out.room.now out.at));
+              behind = omega (arith, w.stored.behind, v.stored.behind, length-append piece next);
+            };
       }
 
-  -- the last piece
-  pub writing_last : {room piece now : List ℕ} {to next : ℕ} → Writing room₀ at text room to piece → Stored room to piece now next → Stored room₀ at text now next
-  writing_last g w = record { bytes = w.bytes ∙ g.same; behind = w.behind ∙ g.ahead }
+  pub fits_next : (next : List ℕ) → HasRoom out (piece ++ next) → HasRoom mid next
+  fits_next next fits = omega (arith, w.stored.behind, wrote_long, length-append piece next)
 
-  -- or the end, where nothing is left
-  pub writing_end : {room : List ℕ} {to : ℕ} → Writing room₀ at text room to [] → Stored room₀ at text room to
-  writing_end {room} {to} g = record { bytes = g.same; behind = rw add-zero at g.ahead }
-
-  -- there is room for what is left, and so for its first piece
-  pub left_fits : {room left : List ℕ} {to : ℕ} → Writing room₀ at text room to left → at + length text ≤ length room₀ → to + length left ≤ length room
-  left_fits g fits = omega (arith, g.ahead, g.long)
-
-  pub piece_fits : {room : List ℕ} {to : ℕ} (piece left : List ℕ) → Writing room₀ at text room to (piece ++ left) → at + length text ≤ length room₀
-      → to + length piece ≤ length room
-  piece_fits {room} {to} piece left g fits = omega (arith, left_fits g fits, length-append piece left)
-
--- the first piece of a text that fits fits
-pub first_fits : (room : List ℕ) (at : ℕ) (piece left : List ℕ) → at + length (piece ++ left) ≤ length room → at + length piece ≤ length room
-first_fits room at piece left fits = omega (arith, length-append piece left)
+pub fits_first : (out : Writer) (piece next : List ℕ) → HasRoom out (piece ++ next) → HasRoom out piece
+fits_first out piece next fits = omega (arith, length-append piece next)

@@ -1,50 +1,66 @@
 // The line of a gate, laid out in a buffer of its own by whole words. A word is stored in full, however short its text is: what is too much is
-// written over by what follows, so that nothing depends on which controls there are.
-ghost use Rattle.std.specs.Prelude.{◌≡◌, true, ◌++◌, ◌/◌, ◌%◌, ◌≤◌, length};
+// written over by what follows, so that nothing depends on which controls there are. Storing only what there is takes twice the time.
+ghost use Rattle.std.specs.Prelude.{◌≡◌, ◌++◌, ◌/◌, ◌%◌, ◌≤◌, length};
+ghost use Rattle.std.proofs.lemmas.List.Edits.{sets};
 ghost use Rattle.ranges.specs.Ranges.{span};
-ghost use Rattle.gates.specs.Inner.Words.{gate_of, GateWord};
+ghost use Rattle.gates.specs.Inner.Words.{bytes_in, gate_of, GateWord};
 ghost use Rattle.texts.specs.Texts.{joined};
 ghost use Rattle.texts.specs.GateTexts.{line_text, control_text, gate_text};
 ghost use Rattle.texts.specs.Inner.StoredTexts.{Appended};
-ghost use Rattle.texts.specs.Inner.Names.{name_in, names_fit};
+ghost use Rattle.texts.specs.Inner.Names.{name_of, name_in};
 
-use gates::words;
+// The name of each operator from 0 on: two letters, or one and a space behind it. No gate has operator 0, whose name is two spaces.
+pub type Names = [[u8; 2]; 6];
 
-// The operator and the target. The second word is ` x0` from the lowest byte up (20, 78, 30), with the target added to the digit.
-fn put_operator(names: &[u64], w: u64, line: &mut [u8]) -> usize
-    requires { (names_fit names.now ≡ true) × GateWord w × (length line.old ≡ 48) }
+// How many letters a name has. A slice for each name would need no space, but copying so few bytes takes a call.
+pub fn count_letters(name: [u8; 2]) -> usize
+    ensures { (result ≡ length (name_of name)) × (result ≤ 2) }
+{
+    usize::from(name[0] != b' ') + usize::from(name[1] != b' ')
+}
+
+// The 8 bytes of a word, its lowest byte first.
+fn put_word(word: u64, line: &mut [u8; 48], at: usize)
+    requires { at ≤ 40 }
+    ensures { line.new ≡ sets line.old at (bytes_in word) }
+{
+    line[at..at + 8].copy_from_slice(&word.to_le_bytes());
+}
+
+// The operator and the target. The word is ` x0` from the lowest byte up (20, 78, 30), with the target added to the digit.
+fn put_operator(names: &Names, w: u64, line: &mut [u8; 48]) -> usize
+    requires { GateWord w }
     ensures { Appended line.old 0 (name_in names.now (w % 256) ++ line_text (w / 256 % 256)) line.new result × (result ≤ 5) }
 {
     let name = names[(w % 256) as usize];
-    words::store(name, line, 0);
-    let named = (name / 0x0100_0000_0000_0000) as usize;
-    words::store(0x0030_7820 + 0x0001_0000 * (w / 256 % 256), line, named);
+    line[0] = name[0];
+    line[1] = name[1];
+    let named = count_letters(name);
+    put_word(0x0030_7820 + 0x0001_0000 * (w / 256 % 256), line, named);
     named + 3
 }
 
 // The controls, in rising line order. A word is ` x0=0` from the lowest byte up (20, 78, 30, 3d, 30), with the line and the value added to the
 // digits; where there is no control, which is the value 3, the next one is stored at the same place.
-fn put_controls(w: u64, line: &mut [u8], at: usize) -> usize
-    requires { GateWord w × (at ≤ 5) × (length line.old ≡ 48) }
+fn put_controls(w: u64, line: &mut [u8; 48], at: usize) -> usize
+    requires { GateWord w × (at ≤ 5) }
     ensures { Appended line.old at (joined (span (control_text (gate_of w)) 0 6)) line.new result × (result ≤ 35) }
 {
     let mut rest = w / 0x0001_0000;
     let mut to = at;
-    let mut k: u64 = 0;
-    while k < 6 {
+    for k in 0..6 {
         let c = rest % 256;
         let control = 0x0030_3d30_7820 + 0x0001_0000 * k + 0x0001_0000_0000 * c;
-        words::store(control, line, to);
-        to = to + (5 - 5 * (c / 3)) as usize;
-        rest = rest / 256;
-        k = k + 1;
+        put_word(control, line, to);
+        to += (5 - 5 * (c / 3)) as usize;
+        rest /= 256;
     }
     to
 }
 
 // The line of the gate that a word writes down, from the start of the buffer on.
-pub fn put_gate(names: &[u64], w: u64, line: &mut [u8]) -> usize
-    requires { (names_fit names.now ≡ true) × GateWord w × (length line.old ≡ 48) }
+pub fn put_gate(names: &Names, w: u64, line: &mut [u8; 48]) -> usize
+    requires { GateWord w }
     ensures { Appended line.old 0 (gate_text (name_in names.now) (gate_of w)) line.new result × (result ≤ 36) }
 {
     let aimed = put_operator(names, w, line);

@@ -1,28 +1,49 @@
-// Bytes of a text, and a number behind its label.
-ghost use Rattle.std.specs.Prelude.{◌++◌, ◌+◌, ◌≤◌, length};
+// A room that is written from its front on: bytes of a text, numbers in decimal, and a number behind its label.
+ghost use Rattle.std.specs.Prelude.{◌++◌};
 ghost use Rattle.texts.specs.Texts.{decimal};
-ghost use Rattle.texts.specs.Inner.StoredTexts.{Stored};
+ghost use Rattle.texts.specs.Inner.StoredTexts.{HasRoom, Wrote};
 
 use super::numbers;
 
-// The bytes of a text, stored from a place on.
-pub fn write_text(text: &[u8], room: &mut [u8], at: usize) -> usize
-    requires { at + length text.now ≤ length room.old }
-    ensures { Stored room.old at text.now room.new result }
-{
-    let mut k: usize = 0;
-    while k < text.len() {
-        room[at + k] = text[k];
-        k = k + 1;
-    }
-    at + k
+// The room, and the place behind what is written.
+#[derive(Drop)]
+pub struct Writer<'a> {
+    pub room: &'a mut [u8],
+    pub at: usize,
 }
 
-// A label and the number behind it, stored from a place on.
-pub fn write_labelled(label: &[u8], x: usize, room: &mut [u8], at: usize) -> usize
-    requires { at + length (label.now ++ decimal x) ≤ length room.old }
-    ensures { Stored room.old at (label.now ++ decimal x) room.new result }
-{
-    let next = write_text(label, room, at);
-    numbers::write_decimal(x, room, next)
+impl Writer<'_> {
+    // The bytes of a text.
+    pub fn write_text(&mut self, text: &[u8])
+        requires { HasRoom self.old text.now }
+        ensures { Wrote self.old text.now self.new }
+    {
+        let end = self.at + text.len();
+        self.room[self.at..end].copy_from_slice(text);
+        self.at = end;
+    }
+
+    // The digits of x. The lowest is found first, so they are stored from the last place down.
+    pub fn write_decimal(&mut self, x: usize)
+        requires { HasRoom self.old (decimal x) }
+        ensures { Wrote self.old (decimal x) self.new }
+    {
+        let end = self.at + numbers::size_decimal(x);
+        let digits = &mut self.room[self.at..end];
+        let mut rest = x;
+        for i in (0..digits.len()).rev() {
+            digits[i] = b'0' + (rest % 10) as u8;
+            rest /= 10;
+        }
+        self.at = end;
+    }
+
+    // A label and the number behind it.
+    pub fn write_labelled(&mut self, label: &[u8], x: usize)
+        requires { HasRoom self.old (label.now ++ decimal x) }
+        ensures { Wrote self.old (label.now ++ decimal x) self.new }
+    {
+        self.write_text(label);
+        self.write_decimal(x);
+    }
 }

@@ -1,13 +1,7 @@
 -- The first pair of a list with gaps is the first pair of its gates: every gate passes a gap and fits none, so a row that is clear up to a place is
 -- clear up to the gates before that place; and the rule applied there is the rule applied to the gates. Assumes nothing.
-use mathlib.Core.Path.{◌≡◌, refl, sym, ap, ap₂, ◌∙◌}
-use mathlib.Core.Logic.{⊎_elim}
-use mathlib.Core.Bool.{true, false}
-use mathlib.Core.List.{List}
-use Prim.Native.Nat.{ℕ, ◌+◌, ◌<◌, ◌≤◌}
-use native.Mathlib.Omega.{arith}
-use lib.ListN.{length, set, length-set}
-use lib.Seq.{get_or-set_other, set_comm}
+use Rattle.std.proofs.Common.{◌≡◌, refl, sym, ap, ap₂, ◌∙◌, ⊎_elim, true, false, List, ℕ, ◌+◌, ◌<◌, arith, length, set, length-set, get_or-set_other}
+use Rattle.std.proofs.Math.Seq.{set_comm}
 use Rattle.ranges.specs.Lists.{Each}
 use Rattle.ranges.proofs.Bools.{decide, clash}
 use Rattle.ranges.proofs.Lists.{each_at}
@@ -17,6 +11,7 @@ use Rattle.gates.specs.declared.Gate.{Gate}
 use Rattle.gates.specs.Gates.{inverse, IsGate}
 use Rattle.gates.proofs.Gates.{inverse_gate}
 use Rattle.rules.specs.declared.fitting.Rule.{Rule}
+use Rattle.std.proofs.Common.{Option}
 use Rattle.rules.specs.Places.{may_change}
 use Rattle.rules.specs.Rules.{fits, loosened, retuned}
 use Rattle.rules.specs.Tidying.{gate, first_j, first_i, without, ruled}
@@ -28,14 +23,16 @@ use Rattle.remembering.specs.Inner.Rows.{Quiet, Clear, Stops, RowsKnown, NoPairB
 use Rattle.remembering.proofs.Gaps.{rank_all, rank_le, rank_mono, rank_rises, rank_lt, gate_ungapped, Standing, stands_at, rank_before, ungapped_set, ungapped_gone, gate_real, gap_passed, gap_unfit}
 use Rattle.remembering.proofs.Buffers.{gate_either, gap_either}
 use Rattle.remembering.proofs.RowPairs.{row, row_ends, row_stops, row_fits, row_hits}
+use Rattle.tidying.specs.declared.pairs.Pair.{Pair}
 use Rattle.tidying.specs.Inner.PairSearches.{PairAt, left_by}
 
 -- ---- rows
 
--- i, j is the first pair; i is the length where there is none
+-- i, j is the first pair
 pub record First (gs : List Gate) (i j : ℕ) : Type 0 where
+  pub inside : i < length gs
   pub row : i ≡ first_i gs
-  pub column : i < length gs → j ≡ first_j gs i
+  pub column : j ≡ first_j gs i
 
 module _ (gs : List Gate) (ok : Each GateOrGap gs) where
   stand : (p : ℕ) → p < length gs → GateOrGap (gate gs p)
@@ -91,84 +88,89 @@ module _ (gs : List Gate) (ok : Each GateOrGap gs) where
       let told = k.rows w.place w.inside in
       rw (← here) (none_ungapped w.place _ w.inside w.real (told.clear w.real) (told.stops w.real (low w.place before)))
 
-  pub first_at : (s : List ℕ) (i j : ℕ) → RowsKnown gs s → NoPairBefore s i → PairAt gs i j → First (ungapped gs) (rank gs i) (rank gs j)
+  -- the gates before row i have none, and it has one or is the end
+  first_is : (s : List ℕ) (i : ℕ) → RowsKnown gs s → NoPairBefore s i → (rank gs i < length (ungapped gs) → row (ungapped gs) (rank gs i) ≡ true) → rank gs i ≡ first_i (ungapped gs)
   unfolding first_i
-  first_at s i j k low w =
-      by_place (First (ungapped gs) (rank gs i) (rank gs j)) (length gs) i
-      (λ l.
-      let real = w.gate_i l in
-      let there : is_gap (gate gs j) ≡ false = fits_real i j l (w.inside l) real (w.fit l) in
-      let fit : fits (gate (ungapped gs) (rank gs i)) (gate (ungapped gs) (rank gs j)) ≡ true =
-      rw (gate_ungapped gs i l real, gate_ungapped gs j (w.inside l) there) (w.fit l) in
-      let clear = clear_ungapped i j l real (w.clear l) in
+  first_is s i k low hit =
+      let le = rank_le gs i in
+      found_unique (row (ungapped gs)) 0 (0 + length (ungapped gs)) (rank gs i) (first_i (ungapped gs))
+      (record { from = omega arith; within = omega arith; before = λ x a b. none_before s i k low x b; hit = λ q. hit (omega arith) })
+      (found (row (ungapped gs)) 0 (length (ungapped gs)))
+
+  pub first_at : (s : List ℕ) (pair : Pair) → RowsKnown gs s → NoPairBefore s pair.i → PairAt gs pair → First (ungapped gs) (rank gs pair.i) (rank gs pair.j)
+  first_at s pair k low w =
+      let i = pair.i in
+      let j = pair.j in
+      let there : is_gap (gate gs j) ≡ false = fits_real i j w.within w.inside w.gate_i w.fit in
+      let fit : fits (gate (ungapped gs) (rank gs i)) (gate (ungapped gs) (rank gs j)) ≡ true = rw (gate_ungapped gs i w.within w.gate_i, gate_ungapped gs j w.inside there) w.fit in
+      let clear = clear_ungapped i j w.within w.gate_i w.clear in
+      let end = rank_lt gs j w.inside there in
       record {
-        row = first_is (rank_le gs i) (λ q. row_hits (ungapped gs) (rank gs i) (rank gs j) clear (rank_lt gs j (w.inside l) there) fit);
-        column = λ q. sym (row_fits (ungapped gs) (rank gs i) (rank gs j) clear (rank_lt gs j (w.inside l) there) fit);
-      })
-      (λ l.
-      let end = rank_all gs i l in
-      record { row = first_is (rank_le gs i) (λ q. absurd (omega arith)); column = λ q. absurd (omega arith) })
-    where
-      first_is : rank gs i ≤ length (ungapped gs) → (rank gs i < length (ungapped gs) → row (ungapped gs) (rank gs i) ≡ true) → rank gs i ≡ first_i (ungapped gs)
-      first_is le hit =
-          found_unique (row (ungapped gs)) 0 (0 + length (ungapped gs)) (rank gs i) (first_i (ungapped gs))
-          (record { from = omega arith; within = omega arith; before = λ x a b. none_before s i k low x b; hit = λ q. hit (omega arith) })
-          (found (row (ungapped gs)) 0 (length (ungapped gs)))
+        inside = rank_lt gs i w.within w.gate_i;
+        row = first_is s i k low (λ q. row_hits (ungapped gs) (rank gs i) (rank gs j) clear end fit);
+        column = sym (row_fits (ungapped gs) (rank gs i) (rank gs j) clear end fit);
+      }
+
+  -- no row has a pair
+  pub first_none : (s : List ℕ) (m : ℕ) → RowsKnown gs s → length gs ≡ m → NoPairBefore s m → first_i (ungapped gs) ≡ length (ungapped gs)
+  first_none s m k e low =
+      let all = rank_all gs m (omega arith) in
+      sym (first_is s m k low (λ q. absurd (omega arith))) ∙ all
 
 -- ---- the rule that fits the pair
 
-module _ (gs : List Gate) (ok : Each GateOrGap gs) (i j : ℕ) (lt : i < length gs) (w : PairAt gs i j) where
-  real_j : is_gap (gate gs j) ≡ false
-  real_j = fits_real gs ok i j lt (w.inside lt) (w.gate_i lt) (w.fit lt)
+module _ (gs : List Gate) (ok : Each GateOrGap gs) (pair : Pair) (w : PairAt gs pair) where
+  real_j : is_gap (gate gs pair.j) ≡ false
+  real_j = fits_real gs ok pair.i pair.j w.within w.inside w.gate_i w.fit
 
-  first_gate : IsGate 6 (gate gs i)
-  first_gate = (stand gs ok i lt).real (w.gate_i lt)
+  first_gate : IsGate 6 (gate gs pair.i)
+  first_gate = (stand gs ok pair.i w.within).real w.gate_i
 
-  second_gate : IsGate 6 (gate gs j)
-  second_gate = (stand gs ok j (w.inside lt)).real real_j
+  second_gate : IsGate 6 (gate gs pair.j)
+  second_gate = (stand gs ok pair.j w.inside).real real_j
 
   -- the two gates, in the list without gaps
-  first_is : gate (ungapped gs) (rank gs i) ≡ gate gs i
-  first_is = gate_ungapped gs i lt (w.gate_i lt)
+  left_is : gate (ungapped gs) (rank gs pair.i) ≡ gate gs pair.i
+  left_is = gate_ungapped gs pair.i w.within w.gate_i
 
-  second_is : gate (ungapped gs) (rank gs j) ≡ gate gs j
-  second_is = gate_ungapped gs j (w.inside lt) real_j
+  right_is : gate (ungapped gs) (rank gs pair.j) ≡ gate gs pair.j
+  right_is = gate_ungapped gs pair.j w.inside real_j
 
   -- what the rule leaves there
-  pub left_stands : {r : Rule} → Chosen (gate gs i) (gate gs j) r → GateOrGap (left_by r (gate gs i) (gate gs j)).first × GateOrGap (left_by r (gate gs i) (gate gs j)).second
+  pub left_stands : {r : Option Rule} → Chosen (gate gs pair.i) (gate gs pair.j) r → GateOrGap (left_by r (gate gs pair.i) (gate gs pair.j)).first × GateOrGap (left_by r (gate gs pair.i) (gate gs pair.j)).second
   left_stands (cancel c) = (gap_either, gap_either)
   left_stands (merge c m) = (gap_either, gate_either _ (inverse_gate 6 _ second_gate))
   left_stands (reduce c m e) = let r = reduction _ _ e in (gate_either _ (loosened_gate _ _ r 6 first_gate), gate_either _ (retuned_gate _ _ r 6 second_gate))
-  left_stands (nothing n) = clash (fits (gate gs i) (gate gs j)) (w.fit lt) n
+  left_stands (nothing n) = clash (fits (gate gs pair.i) (gate gs pair.j)) w.fit n
 
   module _ (h : Gate) where
-    there : i < length (set gs j h)
-    there = rw (length-set gs j h) lt
+    there : pair.i < length (set gs pair.j h)
+    there = rw (length-set gs pair.j h) w.within
 
-    still : is_gap (gate (set gs j h) i) ≡ false
-    still = rw (get_or-set_other gs j i h (record { operator = 0; target = 0; controls = 0 }) (omega (arith, (w.clear lt).past))) (w.gate_i lt)
+    still : is_gap (gate (set gs pair.j h) pair.i) ≡ false
+    still = rw (get_or-set_other gs pair.j pair.i h (record { operator = 0; target = 0; controls = 0 }) (omega (arith, w.clear.past))) w.gate_i
 
-    ranked : rank (set gs j h) i ≡ rank gs i
-    ranked = rank_before gs j i h (omega (arith, (w.clear lt).past))
+    ranked : rank (set gs pair.j h) pair.i ≡ rank gs pair.i
+    ranked = rank_before gs pair.j pair.i h (omega (arith, w.clear.past))
 
-  pub left_ruled : {r : Rule} → Chosen (gate gs i) (gate gs j) r
-      → ungapped (set (set gs j (left_by r (gate gs i) (gate gs j)).second) i (left_by r (gate gs i) (gate gs j)).first) ≡ ruled (ungapped gs) (rank gs i) (rank gs j)
+  pub left_ruled : {r : Option Rule} → Chosen (gate gs pair.i) (gate gs pair.j) r
+      → ungapped (set (set gs pair.j (left_by r (gate gs pair.i) (gate gs pair.j)).second) pair.i (left_by r (gate gs pair.i) (gate gs pair.j)).first) ≡ ruled (ungapped gs) (rank gs pair.i) (rank gs pair.j)
   unfolding is_gap ruled
   left_ruled (cancel c) =
-      ungapped_gone (set gs j gap) i gap (there gap) (still gap) refl
-      ∙ ap₂ without (ungapped_gone gs j gap (w.inside lt) real_j refl) (ranked gap)
-      ∙ rw (first_is, second_is, c)
+      ungapped_gone (set gs pair.j gap) pair.i gap (there gap) (still gap) refl
+      ∙ ap₂ without (ungapped_gone gs pair.j gap w.inside real_j refl) (ranked gap)
+      ∙ rw (left_is, right_is, c)
   left_ruled (merge c m) =
-      let h : Gate = inverse (gate gs j) in
-      ungapped_gone (set gs j h) i gap (there h) (still h) refl
-      ∙ ap₂ without (ungapped_set gs j h (w.inside lt) real_j (gate_real _ (inverse_gate 6 _ second_gate))) (ranked h)
-      ∙ rw (first_is, second_is, c, m)
+      let h : Gate = inverse (gate gs pair.j) in
+      ungapped_gone (set gs pair.j h) pair.i gap (there h) (still h) refl
+      ∙ ap₂ without (ungapped_set gs pair.j h w.inside real_j (gate_real _ (inverse_gate 6 _ second_gate))) (ranked h)
+      ∙ rw (left_is, right_is, c, m)
   left_ruled (reduce c m e) =
       let r = reduction _ _ e in
-      let g : Gate = loosened (gate gs i) (gate gs j) in
-      let h : Gate = retuned (gate gs i) (gate gs j) in
-      ungapped_set (set gs j h) i g (there h) (still h) (gate_real _ (loosened_gate _ _ r 6 first_gate))
-      ∙ ap₂ (λ (l : List Gate) (x : ℕ). set l x g) (ungapped_set gs j h (w.inside lt) real_j (gate_real _ (retuned_gate _ _ r 6 second_gate))) (ranked h)
-      ∙ set_comm (ungapped gs) (rank gs j) (rank gs i) h g (omega (arith, rank_rises gs i j lt (w.gate_i lt) (w.clear lt).past))
-      ∙ rw (first_is, second_is, c, m)
-  left_ruled (nothing n) = clash (fits (gate gs i) (gate gs j)) (w.fit lt) n
+      let g : Gate = loosened (gate gs pair.i) (gate gs pair.j) in
+      let h : Gate = retuned (gate gs pair.i) (gate gs pair.j) in
+      ungapped_set (set gs pair.j h) pair.i g (there h) (still h) (gate_real _ (loosened_gate _ _ r 6 first_gate))
+      ∙ ap₂ (λ (l : List Gate) (x : ℕ). set l x g) (ungapped_set gs pair.j h w.inside real_j (gate_real _ (retuned_gate _ _ r 6 second_gate))) (ranked h)
+      ∙ set_comm (ungapped gs) (rank gs pair.j) (rank gs pair.i) h g (omega (arith, rank_rises gs pair.i pair.j w.within w.gate_i w.clear.past))
+      ∙ rw (left_is, right_is, c, m)
+  left_ruled (nothing n) = clash (fits (gate gs pair.i) (gate gs pair.j)) w.fit n

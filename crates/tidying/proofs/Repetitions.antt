@@ -1,14 +1,6 @@
 -- The loop of steps over the buffer: after k steps it holds what k steps of the definition leave, and where no pair is left that is the tidied list.
 -- Assumes nothing.
-use mathlib.Core.Path.{◌≡◌, sym, ap, ◌∙◌, subst}
-use mathlib.Core.Logic.{⊎_elim}
-use mathlib.Core.Bool.{true, false}
-use mathlib.Core.List.{List, [], ◌∷◌, ◌++◌}
-use Prim.Native.Nat.{ℕ, ◌+◌, ◌-◌, ◌*◌, ◌<◌, ◌≤◌}
-use native.Mathlib.Omega.{arith}
-use lib.ListN.{length, take, drop, replicate}
-use borrow.Author.Tests.{lt-ltb, le-ltb}
-use Rattle.ranges.specs.Ranges.{span}
+use Rattle.std.proofs.Common.{◌≡◌, sym, ap, ◌∙◌, subst, ⊎_elim, true, false, List, [], ◌∷◌, ◌++◌, ℕ, ◌+◌, ◌-◌, ◌*◌, ◌<◌, ◌≤◌, arith, length, take, replicate, lt-ltb, le-ltb}
 use Rattle.ranges.specs.Lists.{Each, total}
 use Rattle.ranges.proofs.Counts.{here_or_later}
 use Rattle.ranges.proofs.Lists.{each_imp}
@@ -21,13 +13,13 @@ use Rattle.rules.proofs.Weights.{control_count_le}
 use Rattle.rules.proofs.TidySteps.{stepped_gates_and_controls, step_stepped}
 use Rattle.rules.proofs.Endings.{after_none, after_one_more, one_answer, tidied_procedure}
 use Rattle.remembering.specs.Inner.Buffers.{gates_in, is_gap, ungapped, rank, BufferHolds}
-use Rattle.remembering.specs.Inner.Rows.{ReachBounds}
-use Rattle.remembering.specs.Inner.Views.{StretchesMarked}
-use Rattle.remembering.proofs.Gaps.{ungapped_all, rank_lt, rank_all, gate_real}
-use Rattle.remembering.proofs.Buffers.{length_gates, holds_list, holds_bytes}
-use Rattle.remembering.proofs.Clearances.{known_start}
+use Rattle.remembering.specs.declared.memory.Memory.{Memory}
+use Rattle.remembering.specs.Inner.Memories.{MemoryFresh}
+use Rattle.remembering.proofs.Gaps.{ungapped_all, gate_real}
+use Rattle.remembering.proofs.Buffers.{holds_list, holds_bytes}
+use Rattle.tidying.specs.declared.pairs.Pair.{Pair}
 use Rattle.tidying.specs.Inner.PairSearches.{GateRecords, Remembers, TidiedIn, PairAt}
-use Rattle.tidying.proofs.Firsts.{First, first_at}
+use Rattle.tidying.proofs.Firsts.{First, first_at, first_none}
 
 -- a list of m gates has at most 7 m gates and controls
 pub size_le : (gs : List Gate) → gates_and_controls gs ≤ 7 * length gs
@@ -37,104 +29,82 @@ size_le (g ∷ gs) = omega (arith, size_le gs, control_count_le g)
 
 -- ---- what the search answers
 
+pub pair_none : (gs : List Gate) → first_i gs ≡ length gs → untidy gs ≡ false
+unfolding untidy
+pair_none gs e = le-ltb (first_i gs) (length gs) (omega arith)
+
 module _ (gs : List Gate) (i j : ℕ) (f : First gs i j) where
-  pub pair_none : length gs ≤ i → untidy gs ≡ false
+  pub pair_some : untidy gs ≡ true
   unfolding untidy
-  pair_none le = le-ltb (first_i gs) (length gs) (omega (arith, f.row))
+  pair_some = lt-ltb (first_i gs) (length gs) (omega (arith, f.row, f.inside))
 
-  module _ (lt : i < length gs) where
-    pub pair_some : untidy gs ≡ true
-    unfolding untidy
-    pair_some = lt-ltb (first_i gs) (length gs) (omega (arith, f.row))
-
-    pub pair_step : ruled gs i j ≡ step gs
-    unfolding step
-    pair_step = ap (ruled gs i) (f.column lt) ∙ ap (λ (x : ℕ). ruled gs x (first_j gs x)) f.row
+  pub pair_step : ruled gs i j ≡ step gs
+  unfolding step
+  pair_step = ap (ruled gs i) f.column ∙ ap (λ (x : ℕ). ruled gs x (first_j gs x)) f.row
 
 -- ---- the loop
 
 -- after k steps on the gates gs the buffer holds them with gaps, and what is remembered is true
-pub record Stepping (gs : List Gate) (b far reach marks : List ℕ) (m x k : ℕ) : Type 0 where
-  pub remembers : Remembers b far reach marks m x
+pub record Stepping {R S : ℕ} (gs : List Gate) (b : List ℕ) (memory : Memory R S) (m x k : ℕ) : Type 0 where
+  pub remembers : Remembers b memory m x
   pub list : ungapped (gates_in b m) ≡ after_steps k gs
   pub used : (q : ℕ) → q < k → untidy (after_steps q gs) ≡ true
   pub spent : k + gates_and_controls (after_steps k gs) ≤ gates_and_controls gs
 
-pub stepping_start : (b far reach marks : List ℕ) (m : ℕ) → GateRecords b m → m + 16 ≤ length far → ReachBounds (span (λ r. r + 1) 0 m ++ drop m far) reach m
-    → StretchesMarked (gates_in b m) marks → Stepping (gates_of b) b (span (λ r. r + 1) 0 m ++ drop m far) reach marks m 0 0
-stepping_start b far reach marks m ok room bounds marked =
+pub stepping_start : {R S : ℕ} (b : List ℕ) (memory : Memory R S) (m : ℕ) → GateRecords b m → MemoryFresh memory m → Stepping (gates_of b) b memory m 0 0
+stepping_start b memory m ok start =
     let count : length (gates_of b) ≡ m = gates_count b ∙ omega (arith, ok.size) in
     let same : gates_in b m ≡ gates_of b = holds_list b (gates_of b) m ok.holds count in
     let real : Each (λ g. is_gap g ≡ false) (gates_of b) = each_imp (IsGate 6) (λ g. is_gap g ≡ false) gate_real (gates_of b) ok.gates in
     record {
-      remembers =
-          record {
-            holds = rw same ok.holds;
-            memory =
-                record {
-                  count = length_gates b m;
-                  few = ok.few;
-                  within = omega arith;
-                  known = rw same (known_start (gates_of b) m far count ok.few room real);
-                  no_pair = λ r l. absurd (omega arith);
-                  bounds = bounds;
-                  marked = marked;
-                };
-          };
+      remembers = record { holds = rw same ok.holds; is_true = rw same (start (gates_of b) count real) };
       list = ap ungapped same ∙ ungapped_all (gates_of b) real ∙ sym (after_none (gates_of b));
       used = λ q lt. absurd (omega arith);
       spent = rw (after_none (gates_of b)) (omega arith);
     }
 
-module _ (gs : List Gate) (b far reach marks : List ℕ) (m x k : ℕ) (w : Stepping gs b far reach marks m x k) where
+module _ {R S : ℕ} (gs : List Gate) (b : List ℕ) (memory : Memory R S) (m x k : ℕ) (w : Stepping gs b memory m x k) where
   -- a pair that the search found is the first of the gates
-  module _ (far' reach' marks' : List ℕ) (i j : ℕ) (v : Remembers b far' reach' marks' m i) (f : PairAt (gates_in b m) i j) where
-    first : First (after_steps k gs) (rank (gates_in b m) i) (rank (gates_in b m) j)
+  module _ (searched : Memory R S) (pair : Pair) (v : Remembers b searched m pair.i) (f : PairAt (gates_in b m) pair) where
+    first : First (after_steps k gs) (rank (gates_in b m) pair.i) (rank (gates_in b m) pair.j)
     first =
-        subst (λ (l : List Gate). First l (rank (gates_in b m) i) (rank (gates_in b m) j)) w.list
-        (first_at (gates_in b m) v.holds.gates far' i j v.memory.known v.memory.no_pair f)
+        subst (λ (l : List Gate). First l (rank (gates_in b m) pair.i) (rank (gates_in b m) pair.j)) w.list
+        (first_at (gates_in b m) v.holds.gates searched.far pair v.is_true.known v.is_true.no_pair f)
 
-    pub stepping_next : i < m → (b'' far'' reach'' marks'' : List ℕ) (y : ℕ) → Remembers b'' far'' reach'' marks'' m y
-        → ungapped (gates_in b'' m) ≡ ruled (ungapped (gates_in b m)) (rank (gates_in b m) i) (rank (gates_in b m) j) → Stepping gs b'' far'' reach'' marks'' m y (k + 1)
-    stepping_next lt b'' far'' reach'' marks'' y u e =
+    pub stepping_next : (t : List ℕ) (later : Memory R S) (y : ℕ) → Remembers t later m y
+        → ungapped (gates_in t m) ≡ ruled (ungapped (gates_in b m)) (rank (gates_in b m) pair.i) (rank (gates_in b m) pair.j) → Stepping gs t later m y (k + 1)
+    stepping_next t later y u e =
         record {
           remembers = u;
-          list = e ∙ ap (λ (l : List Gate). ruled l (rank (gates_in b m) i) (rank (gates_in b m) j)) w.list ∙ sym more;
+          list = e ∙ ap (λ (l : List Gate). ruled l (rank (gates_in b m) pair.i) (rank (gates_in b m) pair.j)) w.list ∙ sym more;
           used = λ q l. ⊎_elim (λ (p : q ≡ k). rw p some) (λ (p : q < k). w.used q p) (here_or_later (omega arith));
           spent = omega (arith, w.spent, ap gates_and_controls (after_one_more k gs), stepped_gates_and_controls (step_stepped (after_steps k gs) some));
         }
       where
-        place : i < length (gates_in b m)
-        place = rw (length_gates b m) lt
-
-        inside : rank (gates_in b m) i < length (after_steps k gs)
-        inside = rw (← w.list) (rank_lt (gates_in b m) i place (f.gate_i place))
-
         some : untidy (after_steps k gs) ≡ true
-        some = pair_some (after_steps k gs) (rank (gates_in b m) i) (rank (gates_in b m) j) first inside
+        some = pair_some (after_steps k gs) (rank (gates_in b m) pair.i) (rank (gates_in b m) pair.j) first
 
-        more : after_steps (k + 1) gs ≡ ruled (after_steps k gs) (rank (gates_in b m) i) (rank (gates_in b m) j)
-        more = after_one_more k gs ∙ sym (pair_step (after_steps k gs) (rank (gates_in b m) i) (rank (gates_in b m) j) first inside)
+        more : after_steps (k + 1) gs ≡ ruled (after_steps k gs) (rank (gates_in b m) pair.i) (rank (gates_in b m) pair.j)
+        more = after_one_more k gs ∙ sym (pair_step (after_steps k gs) (rank (gates_in b m) pair.i) (rank (gates_in b m) pair.j) first)
 
-    stepping_end : m ≤ i → record { left = ungapped (gates_in b m); steps = k } ≡ tidied gs
-    stepping_end le =
+  -- where it found none, the gates are tidy
+  module _ (searched : Memory R S) (v : Remembers b searched m m) where
+    stepping_end : record { left = ungapped (gates_in b m); steps = k } ≡ tidied gs
+    stepping_end =
         one_answer gs (record { left = ungapped (gates_in b m); steps = k }) (tidied gs)
         (record {
           left_is = w.list;
           used = w.used;
-          ended = rw w.list (pair_none (after_steps k gs) (rank (gates_in b m) i) (rank (gates_in b m) j) first end);
+          ended = pair_none (ungapped (gates_in b m)) (first_none (gates_in b m) v.holds.gates searched.far m v.is_true.known v.is_true.count v.is_true.no_pair);
           few = omega (arith, w.spent);
         })
         (tidied_procedure gs)
-      where
-        end : length (after_steps k gs) ≤ rank (gates_in b m) i
-        end = rw (← w.list) (omega (arith, rank_all (gates_in b m) i (rw (length_gates b m) le)))
 
     -- the buffer afterwards, its gaps closed and its freed records cleared
-    pub stepping_done : (s c t : List ℕ) (left : ℕ) → gs ≡ gates_of s → length s ≡ 8 * m → length c ≡ length s → m ≤ i → BufferHolds c (ungapped (gates_in b m)) → left ≡ length (ungapped (gates_in b m))
+    pub stepping_done : (s c t : List ℕ) (left : ℕ) → gs ≡ gates_of s → length s ≡ 8 * m → length c ≡ length s → BufferHolds c (ungapped (gates_in b m)) → left ≡ length (ungapped (gates_in b m))
         → t ≡ take (8 * left) c ++ replicate (length c - 8 * left) 0 → TidiedIn s t left k
-    stepping_done s c t left is size len le h all e =
-        let done : record { left = ungapped (gates_in b m); steps = k } ≡ tidied (gates_of s) = stepping_end le ∙ ap tidied is in
+    stepping_done s c t left is size len h all e =
+        let done : record { left = ungapped (gates_in b m); steps = k } ≡ tidied (gates_of s) = stepping_end ∙ ap tidied is in
         let list : ungapped (gates_in b m) ≡ (tidied (gates_of s)).left = ap (λ (r : Outcome). r.left) done in
         let count : left ≡ length (tidied (gates_of s)).left = all ∙ ap length list in
         let bytes : take (8 * left) c ≡ bytes_of (tidied (gates_of s)).left =

@@ -1,8 +1,12 @@
--- Document 01's number and values for each case of the answer.
-use Rattle.std.specs.Prelude.{[], ◌∷◌}
-use Rattle.card.specs.Card.{Answer, Answer.accepted, Answer.refused}
+-- Document 01's values for what tidying answers.
+use Rattle.std.specs.Prelude.{ℕ, List, [], ◌∷◌, Result}
+use Rattle.card.specs.declared.Refusal.{Refusal}
+use Rattle.card.specs.Card.{Answer}
+use Rattle.card.specs.Answers.{answer_as}
 use Rattle.tidying.specs.declared.Tidied.{Tidied}
 
-abbrev pub tidied_as : Tidied → Answer
-tidied_as (Tidied.Gates left steps) = accepted (left ∷ steps ∷ [])
-tidied_as (Tidied.Refused k p) = refused k p
+abbrev pub tidied_values : Tidied → List ℕ
+tidied_values t = t.left ∷ t.steps ∷ []
+
+abbrev pub tidied_as : Result Tidied Refusal → Answer
+tidied_as r = answer_as tidied_values r

@@ -9,28 +9,20 @@ mod applying;
 mod pairs;
 mod repeating;
 
-use cascades::Counted;
+use card::Refusal;
 
 // The gates left, and the steps taken.
-#[derive(Clone, Copy)]
-pub enum Tidied {
-    Gates { left: usize, steps: usize },
-    Refused { number: u8, place: usize },
+#[derive(Clone, Copy, Debug, PartialEq, Eq)]
+pub struct Tidied {
+    pub left: usize,
+    pub steps: usize,
 }
 
 // The cascade, tidied in the lent buffer: refusals 1, 6, 7.
-pub fn tidy(lines: u8, cascade: &mut [u8]) -> Tidied
+pub fn tidy(lines: u8, cascade: &mut [u8]) -> Result<Tidied, Refusal>
     ensures answer { tidied_as result ≡ tidy_answer lines cascade.old }
     ensures cascade_after { cascade.new ≡ tidy_buffer lines cascade.old }
 {
-    match cascades::check_cascade(lines, cascade) {
-        Counted::Refused { number, place } => Tidied::Refused { number, place },
-        Counted::Gates(m) => {
-            let done = repeating::tidy_records(cascade, m);
-            Tidied::Gates {
-                left: done.left,
-                steps: done.steps,
-            }
-        }
-    }
+    let m = cascades::check_cascade(lines, cascade)?;
+    Ok(repeating::tidy_records(cascade, m))
 }

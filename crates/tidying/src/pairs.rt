@@ -1,9 +1,11 @@
 // The search for the first open pair that fits a rule.
-ghost use Rattle.std.specs.Prelude.{◌≡◌, ◌<◌};
+ghost use Rattle.std.specs.Prelude.{◌≡◌, ◌<◌, MatchOption};
 ghost use Rattle.rules.specs.Rules.{fits};
 ghost use Rattle.rules.specs.Tidying.{gate};
 ghost use Rattle.remembering.specs.Inner.Buffers.{gates_in, BufferHolds};
 ghost use Rattle.tidying.specs.Inner.PairSearches.{Remembers, PairAt};
+
+use remembering::memory::Memory;
 
 // Two places of a cascade.
 #[derive(Clone, Copy)]
@@ -23,37 +25,33 @@ fn fits_places(b: &[u8], m: usize, i: usize, j: usize) -> bool
     )
 }
 
-// The smallest i that has a fitting open pair, then the smallest j; i is m where there is none. No row before `from` has one, and a row goes on from
-// where it is known to be clear.
-pub fn find_pair(
+// The smallest i that has a fitting open pair, then the smallest j. No row before `from` has one, and a row goes on from where it is known to be
+// clear. Two loops and a labelled break out of both are document 01's form for the search; both go on by more than one place at a time.
+pub fn find_pair<const R: usize, const S: usize>(
     b: &[u8],
-    far: &mut [u16],
-    reach: &mut [u16],
-    marks: &mut [u64],
+    memory: &mut Memory<R, S>,
     m: usize,
     from: usize,
-) -> Pair
-    requires { Remembers b.now far.old reach.old marks.old m from }
-    ensures { Remembers b.now far.new reach.new marks.new m result.i × PairAt (gates_in b.now m) result.i result.j }
+) -> Option<Pair>
+    requires { Remembers b.now memory.old m from }
+    ensures { MatchOption result (Remembers b.now memory.new m m) (λ pair. Remembers b.now memory.new m pair.i × PairAt (gates_in b.now m) pair) }
 {
-    let mut i = remembering::rows::next_row(far, m, from);
-    let mut j = i;
-    'rows: while i < m {
+    let mut from = from;
+    'rows: loop {
+        let i = memory.next_row(m, from)?;
         let g = remembering::views::row_word(b, m, i);
-        j = far[i] as usize;
+        let mut j = memory.far[i] as usize;
         while j < m {
             let h = remembering::views::row_word(b, m, j);
             if !rules::passing::may_change(g, h) {
                 break;
             }
             if fits_places(b, m, i, j) {
-                break 'rows;
+                break 'rows Some(Pair { i, j });
             }
-            j = remembering::views::pass_stretches(b, marks, m, i, j + 1);
+            j = memory.pass_stretches(b, m, i, j + 1);
         }
-        far[i] = j as u16 + remembering::rows::SETTLED;
-        remembering::rows::raise_reach(far, reach, m, i, j as u16);
-        i = remembering::rows::next_row(far, m, i + 1);
+        memory.stop_row(i, j);
+        from = i + 1;
     }
-    Pair { i, j }
 }

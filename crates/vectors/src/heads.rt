@@ -1,10 +1,64 @@
 // The head of a case: 18 words, the last two of which are the record.
-ghost use Rattle.std.specs.Prelude.{◌+◌, ◌*◌, ◌<◌, ◌≤◌, length};
+
+// The calls, by their numbers in docs/VECTORS.md.
+#[derive(Clone, Copy, PartialEq)]
+pub enum Call {
+    CheckTable = 1,
+    Synthesize,
+    CheckCascade,
+    Run,
+    Tabulate,
+    Invert,
+    Price,
+    Tidy,
+    Choose,
+    WriteFile,
+    ReadFile,
+    Opening,
+    Next,
+    Listing,
+    Sheet,
+    ReadNames,
+    WriteNames,
+    Serial,
+}
+
+// A number that no call has.
+#[derive(Clone, Copy)]
+pub struct UnknownCall(pub u32);
+
+impl TryFrom<u32> for Call {
+    type Error = UnknownCall;
+
+    fn try_from(number: u32) -> Result<Call, UnknownCall> {
+        match number {
+            1 => Ok(Call::CheckTable),
+            2 => Ok(Call::Synthesize),
+            3 => Ok(Call::CheckCascade),
+            4 => Ok(Call::Run),
+            5 => Ok(Call::Tabulate),
+            6 => Ok(Call::Invert),
+            7 => Ok(Call::Price),
+            8 => Ok(Call::Tidy),
+            9 => Ok(Call::Choose),
+            10 => Ok(Call::WriteFile),
+            11 => Ok(Call::ReadFile),
+            12 => Ok(Call::Opening),
+            13 => Ok(Call::Next),
+            14 => Ok(Call::Listing),
+            15 => Ok(Call::Sheet),
+            16 => Ok(Call::ReadNames),
+            17 => Ok(Call::WriteNames),
+            18 => Ok(Call::Serial),
+            _ => Err(UnknownCall(number)),
+        }
+    }
+}
 
 // The words' names are those of docs/VECTORS.md.
 #[derive(Clone, Copy)]
 pub struct StoredCase {
-    pub call: u32,
+    pub call: Call,
     pub lines: u8,
     pub value: u8,
     pub fitted: u8,
@@ -13,81 +67,41 @@ pub struct StoredCase {
     pub more_times: u32,
     pub stored: u32,
     pub more_stored: u32,
-    pub room: usize,
-    pub note_room: usize,
+    pub room: u32,
+    pub note_room: u32,
     pub fill: u8,
     pub place: usize,
     pub end: usize,
+    pub record: [u8; 8],
 }
 
-#[derive(Clone, Copy)]
-pub enum ParsedHead {
-    Case(StoredCase),
-    Nothing,
-}
-
-fn widen(byte: u8) -> u32
-    ensures { result < 256 }
-{
-    byte as u32
-}
-
-// Four bytes, the low one first.
-pub fn read_u32(head: &[u8], k: usize) -> u32
-    requires { 4 * k + 4 ≤ length head.now }
-{
-    let at = 4 * k;
-    let a = widen(head[at]);
-    let b = widen(head[at + 1]);
-    let c = widen(head[at + 2]);
-    let d = widen(head[at + 3]);
-    a + 0x100 * b + 0x1_0000 * c + 0x100_0000 * d
-}
-
-// Two words, the low one first.
-fn join_words(low: u32, high: u32) -> usize {
-    low as usize + 0x1_0000_0000 * high as usize
-}
-
-// An entry of a room before the call: the fill twice, 0x101 times it.
-pub fn fill_entry(fill: u8) -> u16 {
-    0x101 * fill as u16
+impl StoredCase {
+    // An entry of a room before the call.
+    pub fn fill_entry(&self) -> u16 {
+        u16::from_le_bytes([self.fill; 2])
+    }
 }
 
 // The case that a head tells, if each number is within its range; what it has of bytes and rooms is held to the buffers where they are.
-pub fn find_case(head: &[u8]) -> ParsedHead
-    requires { 72 ≤ length head.now }
-{
-    let call = read_u32(head, 0);
-    let lines = read_u32(head, 1);
-    let value = read_u32(head, 2);
-    let fitted = read_u32(head, 3);
-    let pattern = read_u32(head, 4);
-    let fill = read_u32(head, 11);
-    if call < 1
-        || call > 18
-        || lines > 255
-        || value > 255
-        || fitted > 255
-        || pattern > 0xffff
-        || fill > 255
-    {
-        return ParsedHead::Nothing;
-    }
-    ParsedHead::Case(StoredCase {
-        call,
-        lines: lines as u8,
-        value: value as u8,
-        fitted: fitted as u8,
-        pattern: pattern as u16,
-        times: read_u32(head, 5),
-        more_times: read_u32(head, 6),
-        stored: read_u32(head, 7),
-        more_stored: read_u32(head, 8),
-        room: read_u32(head, 9) as usize,
-        note_room: read_u32(head, 10) as usize,
-        fill: fill as u8,
-        place: join_words(read_u32(head, 12), read_u32(head, 13)),
-        end: join_words(read_u32(head, 14), read_u32(head, 15)),
+pub fn find_case(head: &[u8; 72]) -> Option<StoredCase> {
+    let (words, _) = head.as_chunks();
+    let word = |k: usize| u32::from_le_bytes(words[k]);
+    let (pairs, _) = head.as_chunks();
+    Some(StoredCase {
+        call: Call::try_from(word(0)).ok()?,
+        lines: u8::try_from(word(1)).ok()?,
+        value: u8::try_from(word(2)).ok()?,
+        fitted: u8::try_from(word(3)).ok()?,
+        pattern: u16::try_from(word(4)).ok()?,
+        times: word(5),
+        more_times: word(6),
+        stored: word(7),
+        more_stored: word(8),
+        room: word(9),
+        note_room: word(10),
+        fill: u8::try_from(word(11)).ok()?,
+        place: usize::from_le_bytes(pairs[6]),
+        end: usize::from_le_bytes(pairs[7]),
+        record: pairs[8],
     })
 }

@@ -1,30 +1,29 @@
-// The line of a case: six decimal numbers and four digests, each eight digits in base 16.
+// The line of a case: six decimal numbers and four digests.
+use crate::heads::Call;
 use exports::Numbers;
-use fingerprints::print_digest;
-use std::io;
+use fingerprints::Fnv;
+use std::fmt;
 
-fn print_spaced(rt: &impl Print, number: u64) -> io::Result<()> {
-    rt.print(number)?;
-    rt.write_all(b" ")
+#[derive(Clone, Copy)]
+pub struct Line {
+    pub call: Call,
+    pub told: Numbers,
+    // Digests of what was given first and second, of the room and of the note's room.
+    pub given: Fnv,
+    pub more: Fnv,
+    pub room: Fnv,
+    pub note: Fnv,
 }
 
-pub fn print_case(
-    rt: &impl Print,
-    call: u32,
-    told: Numbers,
-    given: u32,
-    more: u32,
-    room: u32,
-    note: u32,
-) -> io::Result<()> {
-    print_spaced(rt, call as u64)?;
-    print_spaced(rt, told.number)?;
-    print_spaced(rt, told.place)?;
-    print_spaced(rt, told.first)?;
-    print_spaced(rt, told.second)?;
-    print_spaced(rt, told.third)?;
-    print_digest(rt, given, b" ")?;
-    print_digest(rt, more, b" ")?;
-    print_digest(rt, room, b" ")?;
-    print_digest(rt, note, b"\n")
+impl fmt::Display for Line {
+    fn fmt<W: fmt::Write>(&self, f: &mut fmt::Formatter<W>) -> fmt::Result {
+        let told = self.told;
+        write!(f, "{} {} {} ", self.call as u32, told.number, told.place)?;
+        write!(f, "{} {} {} ", told.first, told.second, told.third)?;
+        write!(
+            f,
+            "{} {} {} {}",
+            self.given, self.more, self.room, self.note
+        )
+    }
 }

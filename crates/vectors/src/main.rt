@@ -8,36 +8,34 @@ mod lines;
 mod rooms;
 mod serial;
 
-use heads::ParsedHead;
+use lines::Line;
 use std::io;
 use std::io::Read;
 
-// Shows the next case; false where the input has none.
-fn show_next<R: Read>(rt: &impl Print, input: &mut R) -> io::Result<bool> {
+// The line of the next case; none where the input has none.
+fn next_line<R: Read>(input: &mut R) -> io::Result<Option<Line>> {
     let mut head = [0u8; 72];
     if streams::read_full(input, &mut head)? < 72 {
-        return Ok(false);
+        return Ok(None);
     }
-    let ParsedHead::Case(case) = heads::find_case(&head) else {
-        return Ok(false);
-    };
-    given::show_case(rt, input, case, &head[64..])
+    match heads::find_case(&head) {
+        Some(case) => given::find_line(input, &case),
+        None => Ok(None),
+    }
 }
 
-// Shows so many cases, or as many as the input has before something that is none.
-fn show_all<R: Read>(rt: &impl Print, input: &mut R, count: u32) -> io::Result<()> {
-    let mut shown = 0;
-    while shown < count && show_next(rt, input)? {
-        shown += 1;
-    }
-    Ok(())
-}
-
+// As many cases as the input tells, or those before something that is none.
 fn main(rt: HostRuntime) -> io::Result<()> {
     let mut input = rt.stdin();
     let mut count = [0u8; 4];
-    if streams::read_full(&mut input, &mut count)? == 4 {
-        show_all(&rt, &mut input, heads::read_u32(&count, 0))?;
+    if streams::read_full(&mut input, &mut count)? < 4 {
+        return Ok(());
+    }
+    for _ in 0..u32::from_le_bytes(count) {
+        let Some(line) = next_line(&mut input)? else {
+            break;
+        };
+        println!(rt; "{line}")?;
     }
     Ok(())
 }

@@ -1,6 +1,4 @@
-use mathlib.Core.Path.{◌≡◌}
-use mathlib.Core.List.{List}
-use Prim.Native.Nat.{ℕ, ◌-◌, ◌^◌, ◌<◌}
+use Rattle.std.proofs.Common.{◌≡◌, List, ℕ, ◌^◌, ◌<◌}
 use Rattle.ranges.specs.Ranges.{span}
 use Rattle.gates.specs.Records.{is_record}
 use Rattle.gates.specs.Inner.Quads.{quad}
@@ -14,9 +12,4 @@ pub record Going (n : ℕ) (b : List ℕ) (p m q i : ℕ) : Type 0 where
   pub below : ran (span (gate_in b) 0 i) p < 3 ^ n
 
 abbrev pub invariant-loop-i : goal.invariant-loop-i
-invariant-loop-i l =
-    Going l.lines l.cascade l.pattern l.m l.q l.i
-
-abbrev pub decreases-loop-i : goal.decreases-loop-i
-decreases-loop-i l =
-    l.m - l.i
+invariant-loop-i l = Going l.lines l.cascade l.pattern l.i-end l.q l.i

@@ -1,43 +1,29 @@
 -- `digits::with_digit` meets its contract: `put` is what the body computes, and its parts fit. Assumes nothing.
-use mathlib.Core.Path.{◌≡◌}
-use Prim.Native.Nat.{ℕ, ◌+◌, ◌-◌, ◌*◌, ◌^◌, ◌≤◌, ◌<◌}
-use native.Mathlib.Nat.{pow-le-pow_right, mul-le-mul}
-use native.Mathlib.Omega.{arith}
-use Rattle.digits.specs.Digits.{digit, put}
-use Rattle.digits.proofs.Digits.{digit_le}
+use Rattle.std.proofs.Common.{◌≡◌, ◌-◌, ◌+◌, ◌*◌, ◌≤◌, arith}
+use Rattle.std.proofs.lemmas.Nat.{mul-le}
+use Rattle.digits.specs.Digits.{put}
+use Rattle.digits.proofs.Digits.{put_parts}
+use Rattle.digits.proofs.Sizes.{patterns_most}
 use Rattle.digits.proofs.with_digit.Goals as goal
 
--- what the arithmetic of the body needs, over plain numbers
-record Facts (p k d w x : ℕ) : Type 0 where
-  old : x * w ≤ p
-  new : d * w ≤ 1458
-  value : p - x * w + d * w ≡ put 3 k p d
-
-facts : (p k d w x : ℕ) → k ≤ 6 → d < 3 → w ≡ 3 ^ k → x ≡ digit 3 k p → Facts p k d w x
-unfolding put
-facts p k d w x lk ld ew ex =
-    let most : 3 ^ k ≤ 729 = pow-le-pow_right {n = 3} (omega arith) {i = k} {j = 6} lk in
-    record {
-      old = rw (ew, ex) (digit_le 3 k p);
-      new = mul-le-mul {n₁ = d} {m₁ = w} {n₂ = 2} {m₂ = 729} (omega arith) (omega arith);
-      value = rw (ew, ex);
-    }
-
 module _ (c : goal.After-power-w) where
-  known : Facts c.args.p c.args.k c.args.d c.power-w.result c.args.x
-  known = facts _ _ _ _ _ c.requires.0 c.requires.3 c.power-w.ensures c.requires.1
+  parts : (c.args.x * c.power-w.result ≤ c.args.p) × (c.args.p - c.args.x * c.power-w.result + c.args.d * c.power-w.result ≡ put 3 c.args.k c.args.p c.args.d)
+  parts = put_parts _ _ _ _ _ _ c.power-w.ensures c.requires.1
+
+  new : c.args.d * c.power-w.result ≤ 2 * 729
+  new = mul-le _ _ 2 729 (omega arith) (rw c.power-w.ensures (patterns_most _ c.requires.0))
 
 pub overflow_mul-result : goal.overflow_mul-result
-overflow_mul-result c = omega (arith, known c)
+overflow_mul-result c = omega (arith, parts c)
 
 pub overflow_sub-result : goal.overflow_sub-result
-overflow_sub-result c = (known c).old
+overflow_sub-result c = (parts c).0
 
 pub overflow_mul-result-2 : goal.overflow_mul-result-2
-overflow_mul-result-2 c = omega (arith, known c)
+overflow_mul-result-2 c = omega (arith, new c)
 
 pub overflow_add-result : goal.overflow_add-result
-overflow_add-result c = omega (arith, known c)
+overflow_add-result c = omega (arith, parts c, new c)
 
 pub returns : goal.returns
-returns c = (known c).value
+returns c = (parts c).1

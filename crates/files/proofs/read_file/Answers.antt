@@ -1,79 +1,67 @@
 -- `files::read_file` meets its contract: each return is a case of `read_answer`. Assumes nothing.
-use mathlib.Core.Path.{sym, ap, ◌∙◌}
-use Prim.Native.Nat.{◌/◌, ◌≤◌}
-use native.Mathlib.Omega.{arith}
-use lib.ListN.{length}
+use Rattle.std.proofs.Common.{◌≤◌, ◌/◌, refl, sym, ◌∙◌, length, arith}
 use lib.Seq.{length-take-le}
 use Rattle.card.proofs.Cards.{sets_laid}
-use Rattle.files.specs.Files.{opening_as, count, start_of, read_answer}
+use Rattle.files.specs.Files.{count, start_of, read_answer}
 use Rattle.files.proofs.Frames.{length_note, length_records}
 use Rattle.files.proofs.Openings.{OpensAt, opening_refused, opens_at}
-use Rattle.files.proofs.Transfers.{read_refused, read_records_small, read_note_small, read_done}
+use Rattle.files.proofs.Transfers.{read_exit, read_records_small, read_note_small, read_done}
 use Rattle.files.proofs.read_file.Goals as goal
-use Rattle.files.proofs.read_file.Goals.{In-Frame}
+use Rattle.files.proofs.read_file.Goals.{In_ok-lines}
 
 -- what opening has found
-module _ (c : In-Frame) where
-  opened : OpensAt 8 1 c.args.file.now c.in-Frame.lines c.in-Frame.at c.in-Frame.end
-  opened = opens_at _ _ _ _ _ _ (sym c.opening.ensures ∙ ap opening_as c.in-Frame.is)
+module _ (c : In_ok-lines) where
+  opened : OpensAt 8 1 c.args.file.now c.in_ok-lines.field-0.lines c.in_ok-lines.field-0.at c.in_ok-lines.field-0.end
+  opened = opens_at _ _ _ _ _ _ (sym c.in_ok-lines.ensures)
 
-pub overflow_sub-count : goal.overflow_sub-count
-overflow_sub-count c = (opened c).ordered
+pub returns-in_err-lines : goal.returns-in_err-lines
+unfolding read_answer
+returns-in_err-lines c = read_exit _ _ _ _ _ refl _ c.from_residual.ensures.1 (opening_refused _ _ _ _ _ (sym c.in_err-lines.ensures) _)
 
-pub returns-then-records-count : goal.returns-then-records-count
-returns-then-records-count c =
-    let o = opened (goal.at.returns-then-records-count c).In-Frame in
-    let a = c.args in
-    rw o.gates
-    (read_refused a.file.now a.records.now a.note.now _ _
-    (read_records_small a.file.now a.records.now a.note.now o.framed_right o.whole (rw o.gates at c.if-records-count.true)))
+pub overflow_sub-gates : goal.overflow_sub-gates
+overflow_sub-gates c = (opened c).ordered
 
-pub returns-then-note-at : goal.returns-then-note-at
-returns-then-note-at c =
-    let o = opened (goal.at.returns-then-note-at c).In-Frame in
-    let a = c.args in
-    rw o.first
-    (read_refused a.file.now a.records.now a.note.now _ _
-    (read_note_small a.file.now a.records.now a.note.now o.framed_right o.whole (rw o.gates at c.if-records-count.false) (rw o.first at c.if-note-at.true)))
+pub returns-in_err-check_room : goal.returns-in_err-check_room
+returns-in_err-check_room c =
+    let o = opened (goal.at.returns-in_err-check_room c).In_ok-lines in
+    let small = rw o.gates at c.in_err-check_room.ensures in
+    read_exit _ _ _ _ _ small.1 _ c.from_residual-in_err-check_room.ensures.1 (read_records_small _ _ _ o.framed_right o.whole small.0)
+
+pub returns-in_err-check_room-2 : goal.returns-in_err-check_room-2
+returns-in_err-check_room-2 c =
+    let o = opened (goal.at.returns-in_err-check_room-2 c).In_ok-lines in
+    let small = rw o.first at c.in_err-check_room-2.ensures in
+    read_exit _ _ _ _ _ small.1 _ c.from_residual-in_err-check_room-2.ensures.1
+    (read_note_small _ _ _ o.framed_right o.whole (rw o.gates at c.in_ok-check_room.ensures) small.0)
 
 pub slice_bounds-copy_bytes-count : goal.slice_bounds-copy_bytes-count
-slice_bounds-copy_bytes-count c = (opened (goal.at.slice_bounds-copy_bytes-count c).In-Frame).ordered
+slice_bounds-copy_bytes-count c = (opened (goal.at.slice_bounds-copy_bytes-count c).In_ok-lines).ordered
 
 pub slice_bounds-copy_bytes-start : goal.slice_bounds-copy_bytes-start
-slice_bounds-copy_bytes-start c = (opened (goal.at.slice_bounds-copy_bytes-start c).In-Frame).ordered
+slice_bounds-copy_bytes-start c = (opened (goal.at.slice_bounds-copy_bytes-start c).In_ok-lines).ordered
 
 pub slice_bounds-copy_bytes-end : goal.slice_bounds-copy_bytes-end
-slice_bounds-copy_bytes-end c = (opened (goal.at.slice_bounds-copy_bytes-end c).In-Frame).inside
+slice_bounds-copy_bytes-end c = (opened (goal.at.slice_bounds-copy_bytes-end c).In_ok-lines).inside
 
 pub copy_bytes-requires : goal.copy_bytes-requires
 copy_bytes-requires c =
-    let o = opened (goal.at.copy_bytes-requires c).In-Frame in
+    let o = opened (goal.at.copy_bytes-requires c).In_ok-lines in
     let r = o.framed_right in
-    rw (o.the_records, length_records _ _ _ r) (omega (arith, o.gates, r.eight, c.if-records-count.false))
+    rw (o.the_records, length_records _ _ _ r) (omega (arith, o.gates, r.eight, c.in_ok-check_room.ensures))
 
-pub slice_bounds-copy_bytes-end-in-Frame : goal.slice_bounds-copy_bytes-end-in-Frame
-slice_bounds-copy_bytes-end-in-Frame c =
-    let o = opened (goal.at.slice_bounds-copy_bytes-end-in-Frame c).In-Frame in
+pub slice_bounds-copy_bytes-end-2 : goal.slice_bounds-copy_bytes-end-2
+slice_bounds-copy_bytes-end-2 c =
+    let o = opened (goal.at.slice_bounds-copy_bytes-end-2 c).In_ok-lines in
     sym (length-take-le _ _ (omega (arith, o.ordered, o.inside)))
 
-pub copy_bytes-requires-in-Frame : goal.copy_bytes-requires-in-Frame
-copy_bytes-requires-in-Frame c =
-    let o = opened (goal.at.copy_bytes-requires-in-Frame c).In-Frame in
-    rw (o.the_note, length_note _ _ _ o.framed_right) (omega (arith, o.first, c.if-note-at.false))
-
-pub returns-in-Refused : goal.returns-in-Refused
-unfolding read_answer
-returns-in-Refused c =
-    read_refused _ _ _ _ _ (opening_refused _ _ _ _ _ (sym c.opening.ensures ∙ ap opening_as c.in-Refused.is) _)
-
-pub returns-else-note-at : goal.returns-else-note-at
-returns-else-note-at c =
-    let o = opened (goal.at.returns-else-note-at c).In-Frame in
+pub returns : goal.returns
+returns c =
+    let o = opened (goal.at.returns c).In_ok-lines in
     let r = o.framed_right in
     let a = c.args in
-    let fits : count a.file.now ≤ length a.records.now / 8 = rw o.gates at c.if-records-count.false in
-    let fits' : start_of 8 a.file.now ≤ length a.note.now = rw o.first at c.if-note-at.false in
+    let fits : count a.file.now ≤ length a.records.now / 8 = rw o.gates at c.in_ok-check_room.ensures in
+    let fits' : start_of 8 a.file.now ≤ length a.note.now = rw o.first at c.in_ok-check_room-2.ensures in
     rw (o.gates, o.first, o.lines)
     (read_done a.file.now a.records.now a.note.now r o.whole fits fits' _ _
     (c.copy_bytes.ensures ∙ rw o.the_records (sets_laid _ _ (rw (length_records _ _ _ r) (omega (arith, r.eight)))))
-    (c.copy_bytes-in-Frame.ensures ∙ rw o.the_note (sets_laid _ _ (rw (length_note _ _ _ r) fits'))))
+    (c.copy_bytes-2.ensures ∙ rw o.the_note (sets_laid _ _ (rw (length_note _ _ _ r) fits'))))

@@ -28,13 +28,13 @@ returns-then-not-lines_ok c = sym (turn_lines _ _ _ _ (sym c.lines_ok.ensures �
 pub returns-then-not-record_stands : goal.returns-then-not-record_stands
 returns-then-not-record_stands c = sym (turn_end _ _ _ _ (six (goal.at.returns-then-not-record_stands c).Else-not-lines_ok) (sym c.record_stands.ensures ∙ c.if-not-record_stands.true))
 
-pub returns-in_default : goal.returns-in_default
-returns-in_default c =
-    sym (turn_not _ _ _ _ (six (goal.at.returns-in_default c).Else-not-lines_ok) (stands (goal.at.returns-in_default c).Else-not-record_stands) _ _ (sym c.decode.ensures ∙ c.in_default.is))
+pub returns-in-Err : goal.returns-in-Err
+returns-in-Err c =
+    sym (turn_not _ _ _ _ (six (goal.at.returns-in-Err c).Else-not-lines_ok) (stands (goal.at.returns-in-Err c).Else-not-record_stands) _ (sym c.in-Err.ensures))
 
-pub overflow_add-behind : goal.overflow_add-behind
-overflow_add-behind c = omega (arith, fits (goal.at.overflow_add-behind c).Else-not-record_stands)
+pub overflow_add-result : goal.overflow_add-result
+overflow_add-result c = omega (arith, fits (goal.at.overflow_add-result c).Else-not-record_stands)
 
-pub returns : goal.returns
-returns c =
-    sym (turn_gate _ _ _ _ (six (goal.at.returns c).Else-not-lines_ok) (stands (goal.at.returns c).Else-not-record_stands) _ _ _ (sym c.decode.ensures ∙ c.in-Gate.is))
+pub returns-in-Ok : goal.returns-in-Ok
+returns-in-Ok c =
+    sym (turn_gate _ _ _ _ (six (goal.at.returns-in-Ok c).Else-not-lines_ok) (stands (goal.at.returns-in-Ok c).Else-not-record_stands) _ (sym c.in-Ok.ensures))

@@ -3,24 +3,16 @@
 use Rattle.std.specs.Prelude.{◌≡◌, List, ℕ, ◌+◌, ◌<◌, ◌≤◌, length, get_or, set}
 use Rattle.gates.specs.declared.Gate.{Gate}
 use Rattle.remembering.specs.declared.changes.Change.{Change}
+use Rattle.remembering.specs.declared.memory.Memory.{Memory}
 use Rattle.remembering.specs.declared.views.Sets.{Sets}
 use Rattle.remembering.specs.Inner.Buffers.{gates_in, GateOrGap, BufferHolds}
-use Rattle.remembering.specs.Inner.Rows.{settled_mark, RowKnown, RowsKnown, NoPairBefore, ReachBounds}
+use Rattle.remembering.specs.Inner.Rows.{settled_mark, RowKnown, ReachBounds}
+use Rattle.remembering.specs.Inner.Memories.{RoomFor}
 use Rattle.remembering.specs.Inner.Views.{SeenAs, StretchesMarked}
 
 -- the change of the gate at a place
 abbrev pub change_of : ℕ → ℕ → Gate → ℕ → Sets → Change
 change_of count place gate from seen = record { count = count; place = place; gate = gate; seen = seen; from = from }
-
--- what is remembered of m gates and gaps is true, and no row before x has a pair
-pub record MemoryTrue (gs : List Gate) (far reach marks : List ℕ) (m x : ℕ) : Type 0 where
-  pub count : length gs ≡ m
-  pub few : m ≤ 8000
-  pub within : x ≤ m
-  pub known : RowsKnown gs far
-  pub no_pair : NoPairBefore far x
-  pub bounds : ReachBounds far reach m
-  pub marked : StretchesMarked gs marks
 
 -- a change can be made in the buffer
 pub record ChangeFits (b : List ℕ) (change : Change) : Type 0 where
@@ -39,11 +31,12 @@ pub record RowsAhead (gs : List Gate) (far : List ℕ) (change : Change) (x : �
   pub settled : (r : ℕ) → x ≤ r → r < change.from → settled_mark ≤ get_or far r 0
 
 -- the stretches from row x on can be looked at
-pub record LookFits (b far reach marks : List ℕ) (change : Change) (x : ℕ) : Type 0 where
+pub record LookFits {R S : ℕ} (b : List ℕ) (memory : Memory R S) (change : Change) (x : ℕ) : Type 0 where
   pub fit : ChangeFits b change
-  pub ahead : RowsAhead (gates_in b change.count) far change x
-  pub bounds : ReachBounds far reach change.count
-  pub marked : StretchesMarked (gates_in b change.count) marks
+  pub room : RoomFor R S change.count
+  pub ahead : RowsAhead (gates_in b change.count) memory.far change x
+  pub bounds : ReachBounds memory.far memory.reach
+  pub marked : StretchesMarked (gates_in b change.count) memory.marks
 
 -- t is s after those of the rows from x to e that stand before the change have looked at it again; from x on, no row before low has a pair
 pub record LookedAgain (gs : List Gate) (change : Change) (s t : List ℕ) (x e low : ℕ) : Type 0 where
@@ -56,7 +49,7 @@ pub record LookedAgain (gs : List Gate) (change : Change) (s t : List ℕ) (x e 
   pub settled : (r : ℕ) → x ≤ r → r < low → settled_mark ≤ get_or t r 0
 
 -- the same, with what is known of the stretches
-pub record Looked (gs : List Gate) (change : Change) (s t reach marks : List ℕ) (x e low : ℕ) : Type 0 where
-  pub again : LookedAgain gs change s t x e low
-  pub bounds : ReachBounds t reach change.count
-  pub marked : StretchesMarked gs marks
+pub record Looked {R S : ℕ} (gs : List Gate) (change : Change) (s t : Memory R S) (x e low : ℕ) : Type 0 where
+  pub again : LookedAgain gs change s.far t.far x e low
+  pub bounds : ReachBounds t.far t.reach
+  pub marked : StretchesMarked gs t.marks

@@ -1,5 +1,5 @@
 -- What the search remembers of each row: cited by the contracts of inner functions alone.
-use Rattle.std.specs.Prelude.{◌≡◌, true, false, List, ℕ, ◌+◌, ◌*◌, ◌/◌, ◌%◌, ◌<◌, ◌≤◌, length, get_or}
+use Rattle.std.specs.Prelude.{◌≡◌, true, false, List, ℕ, ◌+◌, ◌/◌, ◌%◌, ◌<◌, ◌≤◌, length, get_or}
 use Rattle.gates.specs.declared.Gate.{Gate}
 use Rattle.rules.specs.Places.{may_change}
 use Rattle.rules.specs.Rules.{fits}
@@ -42,23 +42,19 @@ pub record RowsKnown (gs : List Gate) (far : List ℕ) : Type 0 where
 abbrev pub NoPairBefore : List ℕ → ℕ → Type 0
 NoPairBefore far x = (r : ℕ) → r < x → settled_mark ≤ get_or far r 0
 
--- r is the first row from i on that may have a pair; m where there is none
+-- r is the first row from i on that may have a pair
 pub record NextRow (far : List ℕ) (m i r : ℕ) : Type 0 where
   pub begun : i ≤ r
-  pub within : r ≤ m
+  pub within : r < m
   pub no_pair : NoPairBefore far r
-  pub unsure : r < m → get_or far r 0 < settled_mark
+  pub unsure : get_or far r 0 < settled_mark
 
--- no row of a stretch of sixteen is clear further than the stretch's number; behind these is room to look at sixteen at once
-pub record ReachBounds (far reach : List ℕ) (m : ℕ) : Type 0 where
-  pub room : m + 256 ≤ 16 * length reach
-  pub bound : (r : ℕ) → r < m → get_or far r 0 % settled_mark ≤ get_or reach (r / 16) 0 % settled_mark
+-- no row of a stretch of sixteen is clear further than the stretch's number
+pub record ReachBounds (far reach : List ℕ) : Type 0 where
+  pub bound : (r : ℕ) → get_or far r 0 % settled_mark ≤ get_or reach (r / 16) 0 % settled_mark
 
 -- the same of all rows but r, which is clear up to n at most
-pub record ReachBoundsBut (far reach : List ℕ) (m r n : ℕ) : Type 0 where
-  pub few : m ≤ 8000
-  pub inside : r < m
+pub record ReachBoundsBut (far reach : List ℕ) (r n : ℕ) : Type 0 where
   pub small : n < settled_mark
   pub near : get_or far r 0 % settled_mark ≤ n
-  pub room : m + 256 ≤ 16 * length reach
-  pub others : (q : ℕ) → q < m → (q ≡ r → ⊥) → get_or far q 0 % settled_mark ≤ get_or reach (q / 16) 0 % settled_mark
+  pub others : (q : ℕ) → (q ≡ r → ⊥) → get_or far q 0 % settled_mark ≤ get_or reach (q / 16) 0 % settled_mark

@@ -77,17 +77,27 @@ all_kinds = 0xffff_ffff_ffff_ffff
 abbrev pub SeenAs : Gate → Sets → Type 0
 SeenAs g seen = is_gap g ≡ false → (seen.types ≡ against_of g) × (seen.kinds ≡ kind_of g)
 
--- a gate that meets nothing of the sets u and v is quiet with the gates from x to e, and these with it
-pub record StretchPassed (gs : List Gate) (x e u v : ℕ) : Type 0 where
-  pub quiet : (g : Gate) → IsGate 6 g → bit_and (against_of g) u ≡ 0 → bit_and (kind_of g) v ≡ 0 → (l : ℕ) → x ≤ l → l < e → Quiet g (gate gs l) × (is_gap (gate gs l) ≡ false → Quiet (gate gs l) g)
+-- what a gate must not meet, and what stands in a stretch, share no type on a line and no kind
+pub record MeetsNone (seen here : Sets) : Type 0 where
+  pub types : bit_and seen.types here.types ≡ 0
+  pub kinds : bit_and seen.kinds here.kinds ≡ 0
 
--- two sets for each stretch of sixteen places
-pub record StretchesMarked (gs : List Gate) (marks : List ℕ) : Type 0 where
-  pub room : length gs + 16 ≤ 8 * length marks
-  pub each : (s : ℕ) → 16 * s + 16 ≤ length gs → StretchPassed gs (16 * s) (16 * s + 16) (get_or marks (2 * s) 0) (get_or marks (2 * s + 1) 0)
+-- a gate that meets nothing of the sets is quiet with the gates from x to e, and these with it
+pub record StretchPassed (gs : List Gate) (x e : ℕ) (here : Sets) : Type 0 where
+  pub quiet : (g : Gate) → IsGate 6 g → MeetsNone (record { types = against_of g; kinds = kind_of g }) here → (l : ℕ) → x ≤ l → l < e
+      → Quiet g (gate gs l) × (is_gap (gate gs l) ≡ false → Quiet (gate gs l) g)
+
+-- what is known of stretch s
+abbrev pub mark : List Sets → ℕ → Sets
+mark marks s = get_or marks s (record { types = 0; kinds = 0 })
+
+-- the sets of each stretch of sixteen places
+pub record StretchesMarked (gs : List Gate) (marks : List Sets) : Type 0 where
+  pub room : length gs ≤ 16 * length marks
+  pub each : (s : ℕ) → 16 * s + 16 ≤ length gs → StretchPassed gs (16 * s) (16 * s + 16) (mark marks s)
 
 -- the buffer holds m gates and gaps, and what is known of their stretches is true
-pub record BufferMarked (b marks : List ℕ) (m : ℕ) : Type 0 where
+pub record BufferMarked (b : List ℕ) (marks : List Sets) (m : ℕ) : Type 0 where
   pub few : m ≤ 8000
   pub holds : BufferHolds b (gates_in b m)
   pub marked : StretchesMarked (gates_in b m) marks

@@ -2,11 +2,6 @@
 use Rattle.serials.specs.Serials.{ended}
 use Rattle.serials.proofs.end.Goals as goal
 
-pub returns : goal.returns
+pub returns-clause-answer : goal.returns-clause-answer
 unfolding ended
-returns c =
-    let k = c.close-scan.ensures in
-    record {
-      answer = rw (c.tell-told.ensures, k.value);
-      table_after = k.table_after;
-    }
+returns-clause-answer c = rw (c.tell-told.ensures, c.close-scan.ensures.value)

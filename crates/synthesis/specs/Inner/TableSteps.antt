@@ -1,5 +1,5 @@
 -- What the inner functions of synthesis do, in the words of the procedure.
-use Rattle.std.specs.Prelude.{ℕ, ◌+◌, ◌*◌, ◌^◌, ◌≤◌, ◌<◌, ◌≡◌, cond, List, [], ◌++◌, map, leb, length, get_or, drop}
+use Rattle.std.specs.Prelude.{ℕ, ◌+◌, ◌*◌, ◌^◌, ◌≤◌, ◌<◌, ◌≡◌, cond, List, [], ◌++◌, map, leb, length, get_or}
 use Rattle.digits.specs.Digits.{digit, pack}
 use Rattle.gates.specs.declared.Gate.{Gate}
 use Rattle.gates.specs.Gates.{applied}
@@ -30,16 +30,16 @@ pub record Paired (t v : List ℕ) : Type 0 where
   pub there : Leads t v
   pub back : Leads v t
 
--- t has the present entries on n lines, and v is its inverse
-pub record Present (n : ℕ) (t v : List ℕ) : Type 0 where
+-- t has the present entries on n lines
+pub record Present (n : ℕ) (t : List ℕ) : Type 0 where
   pub lines : n ≤ 6
   pub size : length t ≡ 3 ^ n
-  pub pair : Paired t v
+  pub within : (p : ℕ) → p < 3 ^ n → get_or t p 0 < 3 ^ n
 
 -- they are those of the state z
-pub record TableReached (n : ℕ) (z : State Gate) (t v : List ℕ) : Type 0 where
+pub record TableReached (n : ℕ) (z : State Gate) (t : List ℕ) : Type 0 where
   pub table : t ≡ z.table
-  pub present : Present n t v
+  pub present : Present n t
 
 -- ---- the controls that name a pattern
 
@@ -47,10 +47,10 @@ pub record TableReached (n : ℕ) (z : State Gate) (t v : List ℕ) : Type 0 whe
 unfoldable pub full_controls : ℕ → ℕ → ℕ
 full_controls n a = pack 4 (λ j. cond (leb n j) 3 (digit 3 j a)) 6
 
--- full has those of each pattern
-pub record PatternNames (n : ℕ) (full : List ℕ) : Type 0 where
-  pub size : 3 ^ n ≤ length full
-  pub each : (p : ℕ) → p < 3 ^ n → get_or full p 0 ≡ full_controls n p
+-- full has those of the patterns below m, on up to six lines
+pub record NamesBelow (n m : ℕ) (full : List ℕ) : Type 0 where
+  pub lines : n ≤ 6
+  pub each : (p : ℕ) → p < m → get_or full p 0 ≡ full_controls n p
 
 -- what a gate is made of: its line, the controls that name a pattern, whose digit on that line is to be exchanged, and the digit to exchange it with
 pub record GateParts (k controls d : ℕ) : Type 0 where
@@ -59,31 +59,30 @@ pub record GateParts (k controls d : ℕ) : Type 0 where
   pub from_digit : digit 4 k controls < 3
   pub to_digit : d < 3
 
--- r is the first line on which left has a digit other than 0
-pub record LowestLine (left r : ℕ) : Type 0 where
-  pub line : r < 6
-  pub some : 0 < digit 4 r left
-  pub none_before : (j : ℕ) → j < r → digit 4 j left ≡ 0
-
--- row i of the table t on n lines, whatever n is, and room for its gates before the place e
-pub record RowToSettle (i : ℕ) (full t v : List ℕ) (e : ℕ) : Type 0 where
-  pub n : ℕ
-  pub names : PatternNames n full
-  pub present : Present n t v
-  pub row : i < 3 ^ n
-  pub room : length (row_from n i n t).found ≤ e
-
 -- ---- gates as words
 
--- the words of the gates stand from place e up to place e' of ws'; from there on it is as ws is, and what stands before e is no matter
-pub record WordsLaid (gs : List Gate) (e e' : ℕ) (ws ws' : List ℕ) : Type 0 where
-  pub count : e + length gs ≡ e'
-  pub size : length ws' ≡ length ws
-  pub words : map bytes_in (drop e ws') ≡ map record_of gs ++ map bytes_in (drop e' ws)
+-- ws' are the words of the gates, and after these the words ws
+abbrev pub WordsLaid : List Gate → List ℕ → List ℕ → Type 0
+WordsLaid gs ws ws' = map bytes_in ws' ≡ map record_of gs ++ map bytes_in ws
 
--- what the cascade of the table t with the inverse v needs: room for t's entries, for its gates' words, and for their records
-pub record CascadeRoom (n : ℕ) (t v entries ws room : List ℕ) : Type 0 where
-  pub present : Present n t v
-  pub as_long : length entries ≡ length t
-  pub words_fit : length (synthesized n t) ≤ length ws
+-- row i of the table t on n lines, and room for its gates beside the words that were laid before
+pub record RowToSettle (n i : ℕ) (t ws : List ℕ) : Type 0 where
+  pub present : Present n t
+  pub row : i < 3 ^ n
+  pub room : length (row_from n i n t).found + length ws ≤ 4010
+
+-- what row i leaves: the table t' in the place of t, and the words ws' in the place of ws
+pub record RowSettled (n i : ℕ) (t ws t' ws' : List ℕ) : Type 0 where
+  pub at : TableReached n (row_from n i n t) t'
+  pub laid : WordsLaid (row_from n i n t).found ws ws'
+
+-- the table t on n lines, and room for its cascade's words
+pub record TableToSettle (n : ℕ) (t : List ℕ) : Type 0 where
+  pub present : Present n t
+  pub room : length (synthesized n t) ≤ 4010
+
+-- what the cascade of the table t with the inverse v needs: room for its gates' words, and for their records
+pub record CascadeRoom (n : ℕ) (t v room : List ℕ) : Type 0 where
+  pub settle : TableToSettle n t
+  pub pair : Paired t v
   pub records_fit : 8 * length (synthesized n t) ≤ length room

@@ -1,5 +1,5 @@
 -- `choice::compare::difference_in` meets its contract: both tables are written, and compared entry by entry. Assumes nothing.
-use mathlib.Core.Path.{◌∙◌}
+use Rattle.std.proofs.Common.{◌∙◌}
 use Rattle.choice.proofs.Choices.{first_unlike_lem}
 use Rattle.choice.proofs.compare.difference_in.Goals as goal
 

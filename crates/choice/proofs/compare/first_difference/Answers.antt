@@ -1,8 +1,5 @@
 -- `choice::compare::first_difference` meets its contract: a table of so many lines fits its room. Assumes nothing.
-use mathlib.Core.Path.{sym, ◌∙◌}
-use Prim.Native.Nat.{◌≤◌}
-use lib.Seq.{length-take-le}
-use native.Mathlib.Omega.{arith}
+use Rattle.std.proofs.Common.{sym, ◌∙◌, ◌≤◌, length-take-le, arith}
 use Rattle.digits.proofs.Sizes.{patterns_most}
 use Rattle.card.proofs.Cards.{lines_are}
 use Rattle.choice.proofs.compare.first_difference.Goals as goal
@@ -10,10 +7,10 @@ use Rattle.choice.proofs.compare.first_difference.Goals.{After-power-size}
 
 module _ (c : After-power-size) where
   fits : c.power-size.result ≤ 729
-  fits = omega (arith, c.power-size.ensures, patterns_most _ (lines_are _ c.requires.whole.lines).1)
+  fits = omega (arith, c.power-size.ensures, patterns_most _ (lines_are _ c.requires.first_whole.lines).1)
 
 pub power-size-requires : goal.power-size-requires
-power-size-requires c = (lines_are _ c.requires.whole.lines).1
+power-size-requires c = (lines_are _ c.requires.first_whole.lines).1
 
 pub slice_bounds-one-end : goal.slice_bounds-one-end
 slice_bounds-one-end c = fits c
@@ -30,4 +27,4 @@ slice_bounds-difference_in-end-2 c = sym (length-take-le _ _ (fits (goal.at.slic
 pub difference_in-requires : goal.difference_in-requires
 difference_in-requires c =
     let e = length-take-le _ _ (fits (goal.at.difference_in-requires c).After-power-size) ∙ c.power-size.ensures in
-    record { first_whole = c.requires.whole; second_whole = c.requires.whole_2; first_room = e; second_room = e }
+    record { first_whole = c.requires.first_whole; second_whole = c.requires.second_whole; first_room = e; second_room = e }

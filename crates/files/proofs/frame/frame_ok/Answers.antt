@@ -1,7 +1,5 @@
 -- `files::frame::frame_ok` meets its contract: each test that fails is one that a right frame passes. Assumes nothing.
-use mathlib.Core.Path.{sym, ap, ◌∙◌}
-use Prim.Native.Nat.{ℕ, ◌*◌}
-use native.Mathlib.Omega.{arith}
+use Rattle.std.proofs.Common.{sym, ap, ◌∙◌, ℕ, ◌*◌, arith}
 use Rattle.files.specs.Files.{tail_at, trailer_at, distance, count, edition, start_of}
 use Rattle.files.proofs.Frames.{not_right, frame_last}
 use Rattle.files.proofs.frame.frame_ok.Goals as goal

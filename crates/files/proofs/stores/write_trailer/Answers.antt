@@ -1,15 +1,12 @@
 -- `files::stores::write_trailer` meets its contract: the parts of the trailer are stored one after the other. Assumes nothing.
-use lib.ListN.{length-set}
-use native.Mathlib.Omega.{arith}
+use Rattle.std.proofs.Common.{◌≡◌, ◌*◌, ◌∙◌}
+use Rattle.files.specs.Files.{little_endian}
+use Rattle.files.proofs.NumberBytes.{low_bytes}
 use Rattle.files.proofs.Frames.{trailer_stored}
-use Rattle.std.proofs.Common.{rules}
 use Rattle.files.proofs.stores.write_trailer.Goals as goal
 
-pub bounds-room-at-2 : goal.bounds-room-at-2
-bounds-room-at-2 c = simp length-set (omega arith)
-
-pub shape_of-room : goal.shape_of-room
-shape_of-room c = simp length-set (search rules)
-
 pub returns : goal.returns
-returns c = trailer_stored _ _ _ _ _ _ _ c.write_number.ensures c.write_number-2.ensures
+returns c =
+    let distance : c.to_le_bytes.result ≡ little_endian 4 (8 * c.args.m) = c.to_le_bytes.ensures ∙ low_bytes 4 _ in
+    let count : c.to_le_bytes-2.result ≡ little_endian 2 c.args.m = c.to_le_bytes-2.ensures ∙ low_bytes 2 _ in
+    trailer_stored _ _ _ _ _ _ _ (rw distance at c.copy_bytes.ensures) (rw count at c.copy_bytes-2.ensures)

@@ -17,9 +17,6 @@ module _ (c : goal.After-weight) where
 pub nonzero_div-result : goal.nonzero_div-result
 nonzero_div-result c = rw c.weight-lines.ensures (weight_some _ c.requires.0)
 
-pub overflow_mul-result : goal.overflow_mul-result
-overflow_mul-result c = record { fits = omega (arith, div-mul-le_self 3311470314243 c.weight-lines.result) }
-
 pub overflow_mul-result-2 : goal.overflow_mul-result-2
 overflow_mul-result-2 c = record { fits = omega (arith, own c) }
 

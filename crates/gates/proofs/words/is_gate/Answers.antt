@@ -15,12 +15,12 @@ pub returns-then-n-target : goal.returns-then-n-target
 returns-then-n-target c = sym (word_target _ _ (omega (arith, c.if-n-target.true)))
 
 pub bare_bytes-bare-requires : goal.bare_bytes-bare-requires
-bare_bytes-bare-requires c = ((lines_are _ c.requires).1, omega (arith, c.if-n-target.false))
+bare_bytes-bare-requires c = (omega (arith, (lines_are _ c.requires).1, c.from-n.ensures), omega (arith, c.if-n-target.false))
 
 pub overflow_add-result : goal.overflow_add-result
-overflow_add-result c = record { fits = rw c.bare_bytes-bare.ensures (kept_lt _ _ (lines_are _ c.requires).1 (omega (arith, c.if-n-target.false))) }
+overflow_add-result c = record { fits = rw (c.bare_bytes-bare.ensures, c.from-n.ensures) (kept_lt _ _ (lines_are _ c.requires).1 (omega (arith, c.if-n-target.false))) }
 
 pub returns : goal.returns
 returns c =
-    rw c.bare_bytes-bare.ensures (lines_asked _ _ (lines_are _ c.requires).1 (omega (arith, c.if-n-target.false)) c.args.w)
+    rw (c.bare_bytes-bare.ensures, c.from-n.ensures) (lines_asked _ _ (lines_are _ c.requires).1 (omega (arith, c.if-n-target.false)) c.args.w)
     ∙ sym (word_lines _ _ (omega (arith, c.if-operator-lt1.false)) (omega (arith, c.if-operator-gt5.false)) (omega (arith, c.if-n-target.false)))

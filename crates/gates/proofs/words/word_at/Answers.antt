@@ -1,7 +1,7 @@
--- `gates::words::word_at` meets its contract: two halves of four bytes. Assumes nothing.
-use mathlib.Core.Path.{refl}
-use Rattle.gates.proofs.Bytes.{two_halves}
+-- `gates::words::word_at` meets its contract: each byte has its own weight. Assumes nothing.
+use Rattle.std.proofs.Common.{refl}
+use Rattle.gates.proofs.Bytes.{word_read}
 use Rattle.gates.proofs.words.word_at.Goals as goal
 
 pub returns : goal.returns
-returns c = two_halves _ _ _ _ _ c.half_at.ensures.0 c.half_at-2.ensures.0 refl c.half_at.ensures.1 c.half_at-2.ensures.1
+returns c = word_read _ _ _ _ (λ k. (c.type_inv.bytes k).fits) refl c.from_le_bytes.ensures

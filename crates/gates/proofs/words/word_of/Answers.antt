@@ -13,4 +13,4 @@ unfolding record_of digit
 returns c =
     ap bytes_in (word_spread _ _ _ _ _ c.three_bytes-low.ensures.0 c.three_bytes-high.ensures.0)
     ∙ eight_bytes _ _ _ _ _ _ _ _ (omega arith) (omega arith) (omega arith) (omega arith) (omega arith) (omega arith) (omega arith) (omega arith)
-    ∙ simp div-one
+    ∙ simp (div-one, c.from-c.ensures, c.from.ensures, c.from-2.ensures)

@@ -1,11 +1,6 @@
-use Prim.Native.Nat.{◌-◌}
 use Rattle.names.proofs.GuessTurns.{Guessing}
 use Rattle.names.proofs.guessing.guess_gate.Given as goal
 
 abbrev pub invariant-loop-k : goal.invariant-loop-k
 invariant-loop-k l =
     Guessing l.line l.e l.weight l.controls l.k
-
-abbrev pub decreases-loop-k : goal.decreases-loop-k
-decreases-loop-k l =
-    6 - l.k

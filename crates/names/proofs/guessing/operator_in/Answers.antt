@@ -1,20 +1,20 @@
--- `names::guessing::operator_in` meets its contract: each return is a case of `operator_in`. Assumes nothing.
-use borrow.Author.Tests.{eq-eqb, ne_eqb}
+-- `names::guessing::operator_in` meets its contract: each arm is a case. Assumes nothing.
+use Rattle.std.proofs.Common.{rules, tests}
 use Rattle.names.specs.Inner.Guesses.{operator_in}
 use Rattle.names.proofs.guessing.operator_in.Goals as goal
 
-pub returns-then-a-eq43 : goal.returns-then-a-eq43
+pub returns-in-43-default : goal.returns-in-43-default
 unfolding operator_in
-returns-then-a-eq43 c = rw (← c.byte_at-a.ensures, ← c.byte_at-b.ensures, eq-eqb _ _ c.if-a-eq43.true)
+returns-in-43-default c = rw (← c.byte_at.ensures, ← c.byte_at-second.ensures) (search (rules, tests))
 
-pub returns-then-a-eq49 : goal.returns-then-a-eq49
+pub returns-in-49-default : goal.returns-in-49-default
 unfolding operator_in
-returns-then-a-eq49 c = rw (← c.byte_at-a.ensures, ← c.byte_at-b.ensures, ne_eqb _ _ c.if-a-eq43.false, eq-eqb _ _ c.if-a-eq49.true)
+returns-in-49-default c = rw (← c.byte_at.ensures, ← c.byte_at-second.ensures) (search (rules, tests))
 
-pub returns-then-b-eq50 : goal.returns-then-b-eq50
+pub returns-in_default-eq50 : goal.returns-in_default-eq50
 unfolding operator_in
-returns-then-b-eq50 c = rw (← c.byte_at-a.ensures, ← c.byte_at-b.ensures, ne_eqb _ _ c.if-a-eq43.false, ne_eqb _ _ c.if-a-eq49.false, eq-eqb _ _ c.if-b-eq50.true)
+returns-in_default-eq50 c = rw (← c.byte_at.ensures, ← c.byte_at-second.ensures) (search (rules, tests))
 
-pub returns : goal.returns
+pub returns-in_default : goal.returns-in_default
 unfolding operator_in
-returns c = rw (← c.byte_at-a.ensures, ← c.byte_at-b.ensures, ne_eqb _ _ c.if-a-eq43.false, ne_eqb _ _ c.if-a-eq49.false, ne_eqb _ _ c.if-b-eq50.false)
+returns-in_default c = rw (← c.byte_at.ensures, ← c.byte_at-second.ensures) (search (rules, tests))

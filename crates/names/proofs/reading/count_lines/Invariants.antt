@@ -1,15 +1,8 @@
-use mathlib.Core.Path.{◌≡◌}
-use mathlib.Core.Bool.{true}
-use Prim.Native.Nat.{◌-◌}
-use lib.ListN.{length}
-use Rattle.card.specs.Card.{lines_ok}
-use Rattle.names.proofs.NamedTexts.{ReadingLines}
+use Rattle.std.proofs.Common.{◌≡◌, length}
+use Rattle.names.specs.Names.{text_lines}
+use Rattle.names.proofs.NamedTexts.{Reading}
 use Rattle.names.proofs.reading.count_lines.Given as goal
 
-abbrev pub invariant-loop-at : goal.invariant-loop-at
-invariant-loop-at l =
-    (lines_ok l.lines ≡ true) × ReadingLines l.lines l.text l.at l.i
-
-abbrev pub decreases-loop-at : goal.decreases-loop-at
-decreases-loop-at l =
-    length l.text - l.at
+abbrev pub invariant-loop-line : goal.invariant-loop-line
+invariant-loop-line l =
+    (l.count ≡ length l.yielded) × Reading l.lines (text_lines l.text) l.count

@@ -1,20 +1,15 @@
--- `names::reading::good_line` meets its contract: the gate that is guessed is one on so many lines, and has this line. That the words are the operators'
--- names is computed. Assumes nothing.
-use mathlib.Core.Path.{◌≡◌, refl, sym, ap, ◌∙◌}
-use mathlib.Core.Bool.{true}
-use mathlib.Core.List.{List}
-use Prim.Native.Nat.{ℕ, ◌^◌, ◌<◌}
-use native.Mathlib.Omega.{arith}
-use lib.ListN.{length, take}
-use lib.Seq.{length-take-le}
-use Rattle.ranges.specs.Ranges.{every}
-use Rattle.digits.specs.Digits.{digit}
+-- `names::reading::good_line` meets its contract: the gate that is guessed is one on so many lines, and has this line. That the names are the
+-- operators' is computed. Assumes nothing.
+use Rattle.std.proofs.Common.{◌≡◌, ℕ, ◌^◌, ◌<◌, List, take, sym, ap, ◌∙◌, true, arith}
+use Rattle.std.proofs.lemmas.Bool.Decides.{Decides-eqb}
+use Rattle.std.proofs.lemmas.Slice.Eq.{slice_eq-Decides}
 use Rattle.gates.specs.Records.{record_of}
 use Rattle.gates.specs.Inner.Words.{bytes_in, is_word, gate_of}
 use Rattle.texts.specs.GateTexts.{gate_text}
-use Rattle.texts.specs.Inner.Names.{name_of, name_in, names_fit}
+use Rattle.texts.specs.Inner.Names.{name_of, name_in}
 use Rattle.names.specs.Names.{other_name, same_text}
 use Rattle.names.specs.Inner.Guesses.{guessed}
+use Rattle.names.proofs.SameTexts.{same_decides}
 use Rattle.names.proofs.GoodWords.{good_not, guess_known, good_text}
 use Rattle.names.proofs.reading.good_line.Goals as goal
 use Rattle.names.proofs.reading.good_line.Goals.{After-is_gate, After-put_gate-size, Else-not-is_gate}
@@ -32,23 +27,22 @@ module _ (c : Else-not-is_gate) where
 
 -- what was laid out
 module _ (c : After-put_gate-size) where
-  long : length c.put_gate-size.new.line ≡ 48
-  long = c.put_gate-size.ensures.0.long
-
   text : take c.put_gate-size.result c.put_gate-size.new.line ≡ gate_text other_name (gate_of c.word_of-w.result)
-  unfolding name_in name_of other_name bytes_in digit
+  unfolding name_in name_of other_name
   text = c.put_gate-size.ensures.0.starts
 
 pub returns-then-not-is_gate : goal.returns-then-not-is_gate
-returns-then-not-is_gate c = good_not _ _ _ c.requires (low (goal.at.returns-then-not-is_gate c).After-is_gate) (wrote (goal.at.returns-then-not-is_gate c).After-is_gate) (sym c.is_gate.ensures ∙ c.if-not-is_gate.true)
+returns-then-not-is_gate c =
+    let d = goal.at.returns-then-not-is_gate c in
+    good_not _ _ _ c.requires (low d.After-is_gate) (wrote d.After-is_gate) (sym c.is_gate.ensures ∙ c.if-not-is_gate.true)
 
 pub put_gate-size-requires : goal.put_gate-size-requires
-unfolding names_fit every
-put_gate-size-requires c = (refl, guess_known _ _ _ c.requires (low (goal.at.put_gate-size-requires c).After-is_gate) (wrote (goal.at.put_gate-size-requires c).After-is_gate) (is (goal.at.put_gate-size-requires c).Else-not-is_gate), refl)
-
-pub slice_bounds-same_text-end : goal.slice_bounds-same_text-end
-slice_bounds-same_text-end c = sym (length-take-le _ _ (omega (arith, c.put_gate-size.ensures.1, long (goal.at.slice_bounds-same_text-end c).After-put_gate-size)))
+put_gate-size-requires c =
+    let d = goal.at.put_gate-size-requires c in
+    guess_known _ _ _ c.requires (low d.After-is_gate) (wrote d.After-is_gate) (is d.Else-not-is_gate)
 
 pub returns : goal.returns
 returns c =
-    c.same_text.ensures ∙ ap (λ (x : List ℕ). same_text x c.args.line.now) (text (goal.at.returns c).After-put_gate-size) ∙ good_text _ _ _ c.requires (low (goal.at.returns c).After-is_gate) (wrote (goal.at.returns c).After-is_gate) (is (goal.at.returns c).Else-not-is_gate)
+    let d = goal.at.returns c in
+    same_decides _ _ _ (slice_eq-Decides Decides-eqb _ _ _ c.eq.ensures)
+    ∙ ap (λ (x : List ℕ). same_text x c.args.line.now) (text d.After-put_gate-size) ∙ good_text _ _ _ c.requires (low d.After-is_gate) (wrote d.After-is_gate) (is d.Else-not-is_gate)

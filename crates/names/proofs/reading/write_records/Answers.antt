@@ -1,40 +1,29 @@
 -- `names::reading::write_records` meets its contract: the gates of the lines before the loop are stored. Assumes nothing.
-use mathlib.Core.Path.{◌∙◌}
-use native.Mathlib.Omega.{arith}
+use Rattle.std.proofs.Common.{◌∙◌, rules, tests, arith}
+use Rattle.std.proofs.lemmas.Iterator.Consumers.{YieldsList-turn, YieldsList-end}
+use Rattle.std.proofs.lemmas.List.{length_push}
+use Rattle.names.proofs.SplitLines.{split_lines}
 use Rattle.names.proofs.NamedTexts.{laying_start, laying_fits, laying_next, laying_end}
 use Rattle.names.proofs.reading.write_records.Goals as goal
 
-pub loop-at-init : goal.loop-at-init
-loop-at-init c = laying_start _ _ c.requires
-
-pub line_end-end-requires : goal.line_end-end-requires
-line_end-end-requires c = c.loop-at-test.true
-
-pub slice_bounds-guess_gate-count : goal.slice_bounds-guess_gate-count
-slice_bounds-guess_gate-count c = omega (arith, c.line_end-end.ensures.some)
-
-pub slice_bounds-guess_gate-start : goal.slice_bounds-guess_gate-start
-slice_bounds-guess_gate-start c = omega (arith, c.line_end-end.ensures.some)
-
-pub slice_bounds-guess_gate-end : goal.slice_bounds-guess_gate-end
-slice_bounds-guess_gate-end c = c.line_end-end.ensures.within
+pub loop-line-init : goal.loop-line-init
+loop-line-init c = laying_start _ _ c.requires
 
 pub encode-requires : goal.encode-requires
-encode-requires c = laying_fits _ _ _ _ _ c.loop-at.invariant _ c.line_end-end.ensures
+encode-requires c =
+    let turn = YieldsList-turn (split_lines _ c.args.text.now (cc) (cc) (λ x b q k. search (rules, tests))) c.loop-line.yielded _ c.loop-line.yielded_by _ _ c.in-Some.line c.in-Some.is c.next.ensures.steps in
+    laying_fits _ _ _ _ _ c.loop-line.invariant turn.0
 
 pub overflow_add-to : goal.overflow_add-to
-overflow_add-to c = omega (arith, laying_fits _ _ _ _ _ c.loop-at.invariant _ c.line_end-end.ensures)
+overflow_add-to c =
+    let turn = YieldsList-turn (split_lines _ c.args.text.now (cc) (cc) (λ x b q k. search (rules, tests))) c.loop-line.yielded _ c.loop-line.yielded_by _ _ c.in-Some.line c.in-Some.is c.next.ensures.steps in
+    omega (arith, laying_fits _ _ _ _ _ c.loop-line.invariant turn.0)
 
-pub loop-at-smaller : goal.loop-at-smaller
-loop-at-smaller c = omega (arith, c.line_end-end.ensures.some, c.line_end-end.ensures.within)
-
-pub loop-at-preserved : goal.loop-at-preserved
-loop-at-preserved c =
-    laying_next _ _ _ _ _ c.loop-at.invariant _ c.line_end-end.ensures _
-    (c.encode.ensures ∙ rw c.guess_gate.ensures)
-
-pub shape_of-room : goal.shape_of-room
-shape_of-room c = c.loop-at.invariant.long
+pub loop-line-preserved : goal.loop-line-preserved
+loop-line-preserved c =
+    let turn = YieldsList-turn (split_lines _ c.args.text.now (cc) (cc) (λ x b q k. search (rules, tests))) c.loop-line.yielded _ c.loop-line.yielded_by _ _ c.in-Some.line c.in-Some.is c.next.ensures.steps in
+    rw length_push (laying_next _ _ _ _ _ c.loop-line.invariant _ _ turn.0 turn.1 (c.encode.ensures ∙ rw c.guess_gate.ensures))
 
 pub returns : goal.returns
-returns c = laying_end _ _ _ _ _ c.loop-at.invariant c.loop-at-test.false
+returns c =
+    laying_end _ _ _ _ _ c.loop-line.invariant (YieldsList-end (split_lines _ c.args.text.now (cc) (cc) (λ x b q k. search (rules, tests))) c.loop-line.yielded _ c.loop-line.yielded_by _ _ c.in-None.is c.next.ensures.steps).1

@@ -1,12 +1,8 @@
-use Prim.Native.Nat.{◌-◌}
-use lib.ListN.{length}
+use Rattle.std.proofs.Common.{length}
+use Rattle.names.specs.Names.{text_lines}
 use Rattle.names.proofs.NamedTexts.{Laying}
 use Rattle.names.proofs.reading.write_records.Given as goal
 
-abbrev pub invariant-loop-at : goal.invariant-loop-at
-invariant-loop-at l =
-    Laying l.text l.initial.room l.at l.room l.to
-
-abbrev pub decreases-loop-at : goal.decreases-loop-at
-decreases-loop-at l =
-    length l.text - l.at
+abbrev pub invariant-loop-line : goal.invariant-loop-line
+invariant-loop-line l =
+    Laying (text_lines l.text) l.initial.room l.room l.to (length l.yielded)

@@ -1,5 +1,5 @@
 -- `remembering::changes::own_row` meets its contract, by the cases of the operator. Assumes nothing.
-use borrow.Author.Tests.{eq-eqb, ne_eqb}
+use Rattle.std.proofs.Common.{eq-eqb, ne_eqb}
 use Rattle.remembering.specs.Inner.Buffers.{is_gap}
 use Rattle.remembering.proofs.changes.own_row.Goals as goal
 

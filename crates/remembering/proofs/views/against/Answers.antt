@@ -1,7 +1,5 @@
 -- `remembering::views::against` meets its contract: the target's byte is added to those of the controls. Assumes nothing.
-use Prim.Native.Nat.{◌*◌, ◌≤◌}
-use native.Mathlib.Omega.{arith}
-use Rattle.rules.proofs.PairWords.{operator_lt}
+use Rattle.std.proofs.Common.{◌*◌, ◌≤◌, arith}
 use Rattle.remembering.proofs.Stretches.{against_word, part_most}
 use Rattle.remembering.proofs.views.against.Goals as goal
 use Rattle.remembering.proofs.views.against.Goals.{After-weight}
@@ -9,18 +7,6 @@ use Rattle.remembering.proofs.views.against.Goals.{After-weight}
 module _ (c : After-weight) where
   part : c.other_part.result * c.weight.result ≤ 0xff_0000_0000_0000
   part = rw c.weight.ensures (part_most c.other_part.result c.args.w c.other_part.ensures.1 c.requires.on_line)
-
-pub shun-requires : goal.shun-requires
-shun-requires c = c.requires
-
-pub other_part-requires : goal.other_part-requires
-other_part-requires c = operator_lt _ c.requires
-
-pub weight-requires : goal.weight-requires
-weight-requires c = c.requires.on_line
-
-pub overflow_mul-result : goal.overflow_mul-result
-overflow_mul-result c = omega (arith, c.shun.ensures.1)
 
 pub overflow_mul-result-2 : goal.overflow_mul-result-2
 overflow_mul-result-2 c = omega (arith, part c)

@@ -1,5 +1,5 @@
 -- `remembering::views::fold_marks` meets its contract: it is the definition. Assumes nothing.
-use mathlib.Core.Path.{refl}
+use Rattle.std.proofs.Common.{refl}
 use Rattle.remembering.specs.Inner.Views.{six_bits}
 use Rattle.remembering.proofs.Stretches.{six_bits_lt}
 use Rattle.remembering.proofs.views.fold_marks.Goals as goal

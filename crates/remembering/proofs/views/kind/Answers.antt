@@ -1,16 +1,11 @@
 -- `remembering::views::kind` meets its contract: a gap has no kind, a gate the bit for its control lines. Assumes nothing.
-use mathlib.Core.Path.{sym, ◌∙◌, ap}
-use Prim.Native.Nat.{ℕ, ◌^◌}
-use native.Mathlib.Omega.{arith}
+use Rattle.std.proofs.Common.{sym, ◌∙◌, ap, ℕ, ◌^◌, arith}
 use Rattle.remembering.specs.Inner.Views.{six_bits}
 use Rattle.remembering.proofs.Stretches.{kind_none, kind_word, shifted_bit}
 use Rattle.remembering.proofs.views.kind.Goals as goal
 
 pub returns-then-w-eq0 : goal.returns-then-w-eq0
 returns-then-w-eq0 c = sym (kind_none c.args.w c.requires.lines c.if-w-eq0.true)
-
-pub mark_controls-requires : goal.mark_controls-requires
-mark_controls-requires c = c.requires.lines
 
 pub returns : goal.returns
 returns c =

@@ -1,8 +1,5 @@
 -- `remembering::views::row_word` meets its contract: the word read is that of the gate that stands there. Assumes nothing.
-use mathlib.Core.Path.{◌≡◌, sym, ap, ◌∙◌}
-use Prim.Native.Nat.{◌*◌, ◌<◌}
-use native.Mathlib.Omega.{arith}
-use lib.ListN.{length}
+use Rattle.std.proofs.Common.{◌≡◌, sym, ap, ◌∙◌, ◌*◌, ◌<◌, arith, length}
 use Rattle.gates.specs.declared.Gate.{Gate}
 use Rattle.gates.specs.Inner.Words.{gate_of}
 use Rattle.gates.proofs.Bytes.{control_byte, word_gate, operator_word, target_word}

@@ -1,7 +1,5 @@
 -- `remembering::views::shun` meets its contract: the marks add up to the types that upset each control. Assumes nothing.
-use native.Mathlib.Omega.{arith}
-use Prim.Native.Nat.{◌+◌, ◌-◌, ◌*◌, ◌/◌, ◌<◌}
-use mathlib.Core.Path.{◌≡◌}
+use Rattle.std.proofs.Common.{arith, ◌+◌, ◌-◌, ◌*◌, ◌/◌, ◌<◌, ◌≡◌}
 use Rattle.digits.proofs.Bits.{digit_of_zero}
 use Rattle.gates.specs.Inner.Words.{gate_of}
 use Rattle.gates.proofs.Marks.{marks_lt}
@@ -16,9 +14,6 @@ module _ (c : After-mark_others) where
 
   small : 12 * c.mark_controls.result + 4 * c.mark_others.result < 0x1_0000_0000_0000_0000
   small = omega (arith, total, shunned_lt c.args.w c.requires.small c.requires.lines, c.requires.small)
-
-pub mark_controls-requires : goal.mark_controls-requires
-mark_controls-requires c = c.requires.lines
 
 pub mark_others-requires : goal.mark_others-requires
 mark_others-requires c = (c.requires.lines, λ k l. rw (digit_of_zero 256 k (omega arith)) (omega arith))

@@ -1,7 +1,5 @@
 -- `remembering::views::view` meets its contract: the target's byte is added to those of the controls. Assumes nothing.
-use Prim.Native.Nat.{◌*◌, ◌≤◌}
-use native.Mathlib.Omega.{arith}
-use Rattle.rules.proofs.PairWords.{operator_lt}
+use Rattle.std.proofs.Common.{◌*◌, ◌≤◌, arith}
 use Rattle.remembering.proofs.Stretches.{view_word, part_most}
 use Rattle.remembering.proofs.views.view.Goals as goal
 use Rattle.remembering.proofs.views.view.Goals.{After-weight}
@@ -9,15 +7,6 @@ use Rattle.remembering.proofs.views.view.Goals.{After-weight}
 module _ (c : After-weight) where
   part : c.own_part.result * c.weight.result ≤ 0xff_0000_0000_0000
   part = rw c.weight.ensures (part_most c.own_part.result c.args.w c.own_part.ensures.1 c.requires.on_line)
-
-pub shun-requires : goal.shun-requires
-shun-requires c = c.requires
-
-pub own_part-requires : goal.own_part-requires
-own_part-requires c = operator_lt _ c.requires
-
-pub weight-requires : goal.weight-requires
-weight-requires c = c.requires.on_line
 
 pub overflow_mul-result : goal.overflow_mul-result
 overflow_mul-result c = omega (arith, part c)

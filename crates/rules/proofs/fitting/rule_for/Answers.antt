@@ -18,18 +18,6 @@ module _ (c : After-mark_controls-2) where
       rw (eq-eqb _ _ (c.may_fit.ensures.0 (c.if-not-may_fit.false)), c.mark_controls.ensures, c.mark_controls-2.ensures)
       (sym (marks_same c.args.g c.args.h c.requires.0.lines c.requires.1.lines))
 
-pub may_fit-requires : goal.may_fit-requires
-may_fit-requires c = c.requires
-
-pub returns-then-not-may_fit : goal.returns-then-not-may_fit
-returns-then-not-may_fit c = sym (c.may_fit.ensures.1 (c.if-not-may_fit.true))
-
-pub mark_controls-requires : goal.mark_controls-requires
-mark_controls-requires c = c.requires.0.lines
-
-pub mark_controls-requires-2 : goal.mark_controls-requires-2
-mark_controls-requires-2 c = c.requires.1.lines
-
 pub returns-then-mark_controls : goal.returns-then-mark_controls
 returns-then-mark_controls c = sym (rule_lines _ _ ∙ rw (lines_are (goal.at.returns-then-mark_controls c).After-mark_controls-2, ne_eqb _ _ c.if-mark_controls.true))
 

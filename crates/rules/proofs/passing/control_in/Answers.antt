@@ -10,9 +10,6 @@ use Rattle.gates.proofs.Bytes.{eight_bits}
 use Rattle.rules.proofs.PairWords.{control_in_lem}
 use Rattle.rules.proofs.passing.control_in.Goals as goal
 
-pub overflow_shr-result : goal.overflow_shr-result
-overflow_shr-result c = omega (arith, c.requires.1)
-
 pub returns : goal.returns
 unfolding digit
 returns c =

@@ -1,16 +1,17 @@
 -- `synthesis::making::exchanger_of` meets its contract: each return is a case of the definition. Assumes nothing.
-use borrow.Author.Tests.{eq-eqb, ne_eqb}
+use Rattle.std.proofs.Common.{arith}
+use Rattle.std.proofs.lemmas.Bool.Decides.{nat_tests}
 use Rattle.synthesis.specs.Synthesis.{exchanger}
 use Rattle.synthesis.proofs.making.exchanger_of.Goals as goal
 
-pub returns-then-x-y-eq2 : goal.returns-then-x-y-eq2
+pub returns-in-2 : goal.returns-in-2
 unfolding exchanger
-returns-then-x-y-eq2 c = rw (eq-eqb _ _ c.if-x-y-eq2.true)
+returns-in-2 c = grind (arith, nat_tests)
 
-pub returns-then-x-y-eq3 : goal.returns-then-x-y-eq3
+pub returns-in-3 : goal.returns-in-3
 unfolding exchanger
-returns-then-x-y-eq3 c = rw (ne_eqb _ _ c.if-x-y-eq2.false, eq-eqb _ _ c.if-x-y-eq3.true)
+returns-in-3 c = grind (arith, nat_tests)
 
-pub returns : goal.returns
+pub returns-in_default : goal.returns-in_default
 unfolding exchanger
-returns c = rw (ne_eqb _ _ c.if-x-y-eq2.false, ne_eqb _ _ c.if-x-y-eq3.false)
+returns-in_default c = grind (arith, nat_tests)

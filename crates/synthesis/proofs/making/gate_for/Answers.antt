@@ -1,13 +1,9 @@
 -- `synthesis::making::gate_for` meets its contract: the operator exchanges the two digits, and the target has no control. Assumes nothing.
-use mathlib.Core.Path.{ap, ◌∙◌}
-use native.Mathlib.Omega.{arith}
+use Rattle.std.proofs.Common.{ap, ◌∙◌}
 use Rattle.digits.specs.Digits.{digit}
 use Rattle.synthesis.specs.Synthesis.{gate_for}
 use Rattle.synthesis.proofs.Controls.{full_line, controls_made}
 use Rattle.synthesis.proofs.making.gate_for.Goals as goal
-
-pub control_on-requires : goal.control_on-requires
-control_on-requires c = omega (arith, c.requires.line)
 
 pub returns : goal.returns
 unfolding gate_for

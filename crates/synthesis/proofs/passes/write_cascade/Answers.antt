@@ -1,33 +1,29 @@
 -- `synthesis::passes::write_cascade` meets its contract: the copy is the given table, the words found are its cascade, and their bytes are written.
 -- Assumes nothing.
-use mathlib.Core.Path.{◌∙◌}
-use mathlib.Core.List.{List}
-use Prim.Native.Nat.{ℕ}
-use native.Mathlib.Omega.{arith}
-use lib.ListN.{length}
+use Rattle.std.proofs.Common.{◌≤◌, [], length, sym, ◌∙◌, arith, add-zero, length-take-le}
+use Rattle.digits.proofs.Sizes.{patterns_most}
 use Rattle.synthesis.specs.Synthesis.{synthesized}
 use Rattle.synthesis.specs.Inner.TableSteps.{WordsLaid}
-use Rattle.synthesis.proofs.Layings.{part_length, cascade_laid}
+use Rattle.synthesis.proofs.Layings.{laid_length, cascade_laid}
 use Rattle.synthesis.proofs.passes.write_cascade.Goals as goal
-use Rattle.synthesis.proofs.passes.write_cascade.Goals.{After-find_gates-start}
+use Rattle.synthesis.proofs.passes.write_cascade.Goals.{Start}
 
--- the words that were found
-module _ (c : After-find_gates-start) where
-  abbrev found : List ℕ
-  found = c.find_gates-start.new.words
+module _ (c : Start) where
+  few : length c.args.given.now ≤ 729
+  few = let w = c.requires.settle.present in omega (arith, w.size, patterns_most c.args.n w.lines)
 
-  laid : WordsLaid (synthesized c.args.n c.args.given.now) c.find_gates-start.result (length c.args.words.now) c.args.words.now found
-  laid = rw c.copy_table.ensures at c.find_gates-start.ensures
+pub slice_bounds-entries-end : goal.slice_bounds-entries-end
+slice_bounds-entries-end c = few (goal.at.slice_bounds-entries-end c).Start
 
-pub find_gates-start-requires : goal.find_gates-start-requires
-find_gates-start-requires c = let w = c.requires in record {
-  present = rw c.copy_table.ensures w.present;
-  table_in_bounds = rw c.copy_table.ensures w.words_fit;
-}
+pub slice_bounds-table-end : goal.slice_bounds-table-end
+slice_bounds-table-end c = sym (length-take-le _ _ (few (goal.at.slice_bounds-table-end c).Start))
 
-pub write_words-requires : goal.write_words-requires
-write_words-requires c = omega (arith, part_length _ _ _ _ (laid (goal.at.write_words-requires c).After-find_gates-start), c.requires.records_fit)
+pub copy_from_slice-requires : goal.copy_from_slice-requires
+copy_from_slice-requires c = length-take-le _ _ (few (goal.at.copy_from_slice-requires c).Start)
 
 pub returns : goal.returns
 returns c =
-    (omega (arith, (laid (goal.at.returns c).After-find_gates-start).count, (laid (goal.at.returns c).After-find_gates-start).size), c.write_words.ensures ∙ cascade_laid _ _ _ _ _ (laid (goal.at.returns c).After-find_gates-start) c.requires.records_fit)
+    let n = c.args.n in
+    let same = c.new.ensures ∙ c.copy_from_slice.ensures.after in
+    let w : WordsLaid (synthesized n c.args.given.now) [] c.as_slice-laid.result.now = rw (← same, c.as_slice-laid.ensures) c.find_gates.ensures in
+    (laid_length _ [] _ w ∙ add-zero _, c.write_words.ensures ∙ cascade_laid _ _ _ w c.requires.records_fit)

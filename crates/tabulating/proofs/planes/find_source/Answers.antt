@@ -1,5 +1,5 @@
 -- `tabulating::planes::find_source` meets its contract. Assumes nothing.
-use mathlib.Core.Path.{◌≡◌, ◌∙◌}
+use Rattle.std.proofs.Common.{◌≡◌, ◌∙◌}
 use Rattle.gates.specs.Gates.{act, inverse_op}
 use Rattle.gates.proofs.Operators.{act_lt}
 use Rattle.tabulating.proofs.planes.find_source.Goals as goal

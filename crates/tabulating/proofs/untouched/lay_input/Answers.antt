@@ -1,53 +1,36 @@
 -- `tabulating::untouched::lay_input` meets its contract: line after line. Assumes nothing.
-use mathlib.Core.Path.{◌≡◌, sym, ap, ◌∙◌}
-use Prim.Native.Nat.{◌+◌, ◌*◌, ◌<◌}
-use native.Mathlib.Nat.{add-zero}
-use native.Mathlib.Omega.{arith}
+use Rattle.std.proofs.Common.{◌≡◌, ap, ◌∙◌, ℕ, ◌<◌, ◌+◌, [], List, get_or, set, length-set, arith}
+use Rattle.std.proofs.Math.Decide.{ℕ_discrete}
+use Rattle.std.proofs.lemmas.List.{get_or-set_same, get_or-set_other}
 use Rattle.digits.specs.Digits.{digit}
 use Rattle.digits.proofs.Digits.{digit_lt}
 use Rattle.gates.proofs.Firing.{digit_quad}
+use Rattle.tabulating.specs.Inner.Planes.{LineUpTo, ShownUpTo}
 use Rattle.tabulating.proofs.UntouchedPlanes.{untouched_next}
 use Rattle.tabulating.proofs.untouched.lay_input.Goals as goal
-use Rattle.tabulating.proofs.untouched.lay_input.Goals.{After-control_on-digit}
+use Rattle.tabulating.proofs.untouched.lay_input.Goals.{After-add_to_line}
 
--- what the input holds on a line
-module _ (c : After-control_on-digit) where
-  holding : c.control_on-digit.result ≡ digit 3 c.loop-line.line c.args.p
-  holding = c.control_on-digit.ensures ∙ ap (digit 4 c.loop-line.line) c.quad_of-q.ensures ∙ digit_quad _ _ c.loop-line-test.true
+module _ (c : After-add_to_line) where
+  abbrev line : List (List ℕ)
+  line = c.add_to_line.new.line
 
-  low : c.control_on-digit.result < 3
-  low = rw holding (digit_lt 3 _ _ (omega arith))
+  next : ShownUpTo c.args.planes.now c.args.p → LineUpTo c.loop-k.k line (c.args.p + 1)
+  next shown =
+      untouched_next c.loop-k.k c.args.p c.control_on.result _ line
+      (c.control_on.ensures ∙ ap (digit 4 c.loop-k.k) c.quad_of-q.ensures ∙ digit_quad _ _ c.loop-k-test.true) c.add_to_line.ensures
+      (c.loop-k.invariant.left shown c.loop-k.k c.loop-k-test.true (omega arith))
 
-pub loop-line-init : goal.loop-line-init
-loop-line-init c = record { long = c.requires.0; within = omega arith; laid = rw add-zero (λ l. l) }
+  done : ShownUpTo c.args.planes.now c.args.p → (i : ℕ) → i < 6 → i < c.loop-k.k + 1 → Dec (i ≡ c.loop-k.k) → LineUpTo i (get_or (set c.loop-k.planes c.loop-k.k line) i []) (c.args.p + 1)
+  done shown i li lt (yes e) = rw (e, get_or-set_same c.loop-k.planes c.loop-k.k line [] (omega (arith, c.loop-k.invariant.long, c.loop-k-test.true))) (next shown)
+  done shown i li lt (no ne) = rw (get_or-set_other c.loop-k.planes c.loop-k.k i line [] ne) (c.loop-k.invariant.done shown i li (omega arith))
 
-pub overflow_cast-digit : goal.overflow_cast-digit
-overflow_cast-digit c = omega (arith, low c)
+pub add_to_line-requires : goal.add_to_line-requires
+add_to_line-requires c = (rw c.control_on.ensures (digit_lt 4 _ _ (omega arith)), c.requires)
 
-pub add_input-requires : goal.add_input-requires
-add_input-requires c =
-    (c.loop-line.invariant.long, omega (arith, low (goal.at.add_input-requires c).After-control_on-digit, c.loop-line-test.true), c.requires.1)
-
-pub add_input-requires-in-loop-line : goal.add_input-requires-in-loop-line
-add_input-requires-in-loop-line c =
-    (c.add_input.auto.planes ∙ c.loop-line.invariant.long, omega (arith, c.loop-line-test.true), c.requires.1)
-
-pub loop-line-preserved : goal.loop-line-preserved
-loop-line-preserved c =
-    let i = c.loop-line.invariant in
+pub loop-k-preserved : goal.loop-k-preserved
+loop-k-preserved c =
     record {
-      long = c.add_input-in-loop-line.auto.planes ∙ c.add_input.auto.planes ∙ i.long;
-      within = omega (arith, c.loop-line-test.true);
-      laid = λ l.
-          rw (c.add_input-in-loop-line.ensures, c.add_input.ensures)
-          (untouched_next _ _ _ _ i.long c.loop-line-test.true (low (goal.at.loop-line-preserved c).After-control_on-digit) c.requires.1 (holding (goal.at.loop-line-preserved c).After-control_on-digit) (i.laid l));
+      long = simp length-set c.loop-k.invariant.long;
+      done = λ shown i li lt. done c shown i li lt (ℕ_discrete i c.loop-k.k);
+      left = λ shown i li le. rw (get_or-set_other c.loop-k.planes c.loop-k.k i c.add_to_line.new.line [] (λ e. omega arith)) (c.loop-k.invariant.left shown i li (omega arith));
     }
-
-pub shape_of-planes : goal.shape_of-planes
-shape_of-planes c = c.loop-line.invariant.long ∙ sym c.requires.0
-
-pub returns : goal.returns
-returns c =
-    let i = c.loop-line.invariant in
-    let e : 6 * c.args.p + c.loop-line.line ≡ 6 * (c.args.p + 1) = omega (arith, i.within, c.loop-line-test.false) in
-    λ l. rw e at (i.laid l)

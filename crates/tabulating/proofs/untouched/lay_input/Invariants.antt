@@ -1,17 +1,10 @@
-use mathlib.Core.List.{List}
-use Prim.Native.Nat.{ℕ, ◌+◌, ◌-◌, ◌*◌, ◌≤◌}
-use Rattle.tabulating.specs.Inner.Planes.{AllPlanes, ShownUpTo}
+use Rattle.std.proofs.Common.{◌≡◌, ℕ, length, ◌≤◌, ◌<◌, ◌+◌, [], get_or}
+use Rattle.tabulating.specs.Inner.Planes.{ShownUpTo, LineUpTo}
 use Rattle.tabulating.proofs.untouched.lay_input.Given as goal
 
-pub record Going (b₀ : List ℕ) (p : ℕ) (b : List ℕ) (line : ℕ) : Type 0 where
-  pub long : AllPlanes b
-  pub within : line ≤ 6
-  pub laid : ShownUpTo b₀ (6 * p) → ShownUpTo b (6 * p + line)
-
-abbrev pub invariant-loop-line : goal.invariant-loop-line
-invariant-loop-line l =
-    Going l.initial.planes l.p l.planes l.line
-
-abbrev pub decreases-loop-line : goal.decreases-loop-line
-decreases-loop-line l =
-    6 - l.line
+abbrev pub invariant-loop-k : goal.invariant-loop-k
+invariant-loop-k l = record {
+  long : length l.planes ≡ 6;
+  done : ShownUpTo l.initial.planes l.p → (i : ℕ) → i < 6 → i < l.k → LineUpTo i (get_or l.planes i []) (l.p + 1);
+  left : ShownUpTo l.initial.planes l.p → (i : ℕ) → i < 6 → l.k ≤ i → LineUpTo i (get_or l.planes i []) l.p;
+}

@@ -1,13 +1,9 @@
 -- `tabulating::whole::write_table` meets its contract: planes that show what the gates make of each input have the table. Assumes nothing.
-use mathlib.Core.Path.{refl, ◌∙◌}
-use Prim.Native.Nat.{◌≤◌}
-use native.Mathlib.Omega.{arith}
-use lib.ListN.{length, get_or-replicate}
+use Rattle.std.proofs.Common.{◌∙◌, ◌≤◌, length, arith}
 use Rattle.card.proofs.Cards.{lines_are}
 use Rattle.digits.proofs.Sizes.{patterns_most}
 use Rattle.cascades.proofs.Cascades.{gates_good}
 use Rattle.tabulating.proofs.ShownPlanes.{shown_table}
-use Rattle.std.proofs.Common.{rules}
 use Rattle.tabulating.proofs.whole.write_table.Goals as goal
 use Rattle.tabulating.proofs.whole.write_table.Goals.{Start}
 
@@ -19,15 +15,11 @@ module _ (c : Start) where
 pub overflow_cast-table : goal.overflow_cast-table
 overflow_cast-table c = omega (arith, most (goal.at.overflow_cast-table c).Start)
 
-pub lay_inputs-requires : goal.lay_inputs-requires
-lay_inputs-requires c = (refl, λ i lt. get_or-replicate 288 i 0 0 (omega (arith, lt)), most (goal.at.lay_inputs-requires c).Start)
-
-pub write_entries-requires : goal.write_entries-requires
-write_entries-requires c =
-    (search rules, most (goal.at.write_entries-requires c).Start)
+pub lay_inputs-planes-requires : goal.lay_inputs-planes-requires
+lay_inputs-planes-requires c = most (goal.at.lay_inputs-planes-requires c).Start
 
 pub returns : goal.returns
 returns c =
     let whole = c.requires.whole in
     c.write_entries.ensures
-    ∙ rw c.requires.table_len (shown_table _ _ _ (lines_are _ whole.lines).1 (gates_good _ _ _ whole) (rw c.requires.table_len at (c.apply_gates.ensures _ _ c.lay_inputs.ensures)))
+    ∙ rw c.requires.table_len (shown_table _ _ _ (lines_are _ whole.lines).1 (gates_good _ _ _ whole) (rw c.requires.table_len at (c.apply_gates.ensures _ _ c.lay_inputs-planes.ensures)))

@@ -1,22 +1,18 @@
-use mathlib.Core.Path.{◌≡◌}
-use mathlib.Core.List.{List}
-use Prim.Native.Nat.{ℕ, ◌+◌, ◌-◌, ◌*◌, ◌≤◌}
-use lib.ListN.{length}
+use Rattle.std.proofs.Common.{◌≡◌, ℕ, ◌*◌, ◌≤◌, List, length}
+use Rattle.std.specs.Slice.Iter.{chunks_exact_rest, chunks_exact_size}
 use Rattle.ranges.specs.Ranges.{span}
 use Rattle.cascades.specs.Cascades.{gate_in}
 use Rattle.texts.specs.GateTexts.{gate_texts}
 use Rattle.texts.specs.Inner.Names.{name_in}
+use Rattle.texts.proofs.Walks.{Walking}
 use Rattle.texts.proofs.gate_texts.size_gate_texts.Given as goal
 
-pub record Going (words b : List ℕ) (m size i : ℕ) : Type 0 where
-  pub within : i ≤ m
+-- the bytes of the lines of i gates
+pub record Going (names : List (List ℕ)) (b rest : List ℕ) (i size : ℕ) : Type 0 where
+  pub walking : Walking b i rest
+  pub so_far : size ≡ length (gate_texts (name_in names) (span (gate_in b) 0 i))
   pub small : size ≤ 31 * i
-  pub left : size + length (gate_texts (name_in words) (span (gate_in b) i (m - i))) ≡ length (gate_texts (name_in words) (span (gate_in b) 0 m))
 
-abbrev pub invariant-loop-i : goal.invariant-loop-i
-invariant-loop-i l =
-    Going l.names l.cascade l.m l.size l.i
-
-abbrev pub decreases-loop-i : goal.decreases-loop-i
-decreases-loop-i l =
-    l.m - l.i
+abbrev pub invariant-loop-record : goal.invariant-loop-record
+invariant-loop-record l =
+    (chunks_exact_size l.record-iterator ≡ 8) × Going l.names l.cascade (chunks_exact_rest l.record-iterator) (length l.yielded) l.size

@@ -1,15 +1,10 @@
--- `texts::numbers::size_decimal` meets its contract: `rest` is what w digits leave of x, and so far w were not enough. Assumes nothing.
-use Rattle.texts.proofs.Decimals.{counting_start, counting_stops, counting_next, counting_ends}
+-- `texts::numbers::size_decimal` meets its contract: a number has one digit more than its power of ten. Assumes nothing.
+use Rattle.std.proofs.Common.{sym, arith}
+use Rattle.texts.proofs.Decimals.{width_is, width_small}
 use Rattle.texts.proofs.numbers.size_decimal.Goals as goal
 
-pub loop-w-init : goal.loop-w-init
-loop-w-init c = counting_start _
+pub returns-in-Some-clause-digits : goal.returns-in-Some-clause-digits
+returns-in-Some-clause-digits c = width_is c.args.x _ c.in-Some.ensures.bound c.in-Some.ensures.power_le c.in-Some.ensures.next_power_gt
 
-pub returns-then-rest-eq0 : goal.returns-then-rest-eq0
-returns-then-rest-eq0 c = counting_stops _ _ _ c.loop-w.invariant c.loop-w-test.true c.if-rest-eq0.true
-
-pub loop-w-preserved : goal.loop-w-preserved
-loop-w-preserved c = counting_next _ _ _ c.loop-w.invariant c.loop-w-test.true c.if-rest-eq0.false
-
-pub returns : goal.returns
-returns c = counting_ends _ _ _ c.loop-w.invariant c.loop-w-test.false
+pub returns-in-None-clause-digits : goal.returns-in-None-clause-digits
+returns-in-None-clause-digits c = sym (width_small c.args.x (omega (arith, c.in-None.ensures.none)))

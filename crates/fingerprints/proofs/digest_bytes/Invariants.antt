@@ -1,6 +1,0 @@
--- Each turn leaves one byte less.
-use Rattle.std.proofs.Common.{length, ◌-◌}
-use Rattle.fingerprints.proofs.digest_bytes.Given as goal
-
-abbrev pub decreases-loop-i : goal.decreases-loop-i
-decreases-loop-i l = length l.bytes - l.i

@@ -1,0 +1,21 @@
+-- `remembering::memory::Memory::look_stretches` meets its contract: no stretch reaches the change, or those before s have been looked at. Assumes
+-- nothing.
+use Rattle.std.proofs.Common.{◌≡◌, ◌+◌, ◌*◌, refl, rules, arith}
+use Rattle.remembering.proofs.Buffers.{gates_inside}
+use Rattle.remembering.proofs.Looks.{again_none, looking_next}
+use Rattle.remembering.proofs.Reaches.{reach_many}
+use Rattle.remembering.proofs.memory.Memory.look_stretches.Goals as goal
+
+pub returns-then-furthest-change : goal.returns-then-furthest-change
+returns-then-furthest-change g c =
+    record {
+      again = again_none _ _ _ _ _ (gates_inside _ _ _ c.requires.fit.inside) (omega (arith, c.requires.fit.few, c.requires.fit.inside))
+          (λ r a b l. reach_many _ _ _ _ _ _ r c.requires.bounds refl (search rules) c.furthest.ensures.bound c.if-furthest-change.true a b) c.requires.ahead;
+      bounds = c.requires.bounds;
+      marked = c.requires.marked;
+    }
+
+pub loop-s-preserved : goal.loop-s-preserved
+loop-s-preserved g c =
+    let more : 16 * (c.loop-s.s + 1) ≡ 16 * c.loop-s.s + 16 = omega arith in
+    rw more (looking_next _ _ _ _ c.requires _ _ _ c.loop-s.invariant (omega arith) _ _ _ _ c.look_stretch.ensures (omega arith) (omega arith) (omega arith))

@@ -1,0 +1,89 @@
+// What the search remembers of the gates and gaps in a buffer.
+ghost use Rattle.std.specs.Prelude.{◌≡◌, false, List, ℕ, ◌+◌, ◌*◌, ◌≤◌, ◌<◌, get_or, MatchOption};
+ghost use Rattle.gates.specs.declared.Gate.{Gate};
+ghost use Rattle.rules.specs.Tidying.{gate};
+ghost use Rattle.remembering.specs.Inner.Buffers.{gates_in, is_gap, BufferHolds};
+ghost use Rattle.remembering.specs.Inner.Rows.{settled_mark, Clear, Stops, NoPairBefore, NextRow};
+ghost use Rattle.remembering.specs.Inner.Memories.{blank, RoomFor, MemoryTrue, MemoryFresh};
+
+use super::rows::SETTLED;
+use super::views::{Sets, UNKNOWN};
+
+// far has a number for each row (see `rows`), reach one for each stretch of sixteen rows that bounds theirs, so that the rows that reach a changed
+// gate are found 256 at a time; marks has what stands in each stretch.
+#[derive(Drop)]
+pub struct Memory<const R: usize, const S: usize> {
+    pub far: [u16; R],
+    pub reach: [u16; S],
+    pub marks: [Sets; S],
+}
+
+impl<const R: usize, const S: usize> Memory<R, S> {
+    // Of no gates.
+    pub fn new() -> Self
+        ensures { result ≡ blank R S }
+    {
+        Memory {
+            far: [0; R],
+            reach: [0; S],
+            marks: [UNKNOWN; S],
+        }
+    }
+
+    // Of m gates, after none: each row is clear up to the gate behind its own, and of no stretch anything is known. It is begun where it lies, since to
+    // hand it out copies it.
+    pub fn start(&mut self, m: usize)
+        requires { (self.old ≡ blank R S) × RoomFor R S m }
+        ensures { MemoryFresh self.new m }
+    {
+        for r in 0..m {
+            self.far[r] = (r + 1) as u16;
+        }
+        for s in 0..(m + 15) / 16 {
+            self.reach[s] = (16 * s + 16) as u16;
+        }
+    }
+
+    // The first row from i on that may have a pair.
+    pub fn next_row(&self, m: usize, i: usize) -> Option<usize>
+        requires { (i ≤ m) × (m + 16 ≤ R) × NoPairBefore self.now.far i }
+        ensures { MatchOption result (NoPairBefore self.now.far m) (λ r. NextRow self.now.far m i r) }
+    {
+        for r in i..m {
+            if self.far[r] < SETTLED {
+                return Some(r);
+            }
+        }
+        None
+    }
+
+    // Row i, which is clear up to place j, has no pair.
+    pub fn stop_row(&mut self, i: usize, j: usize)
+        requires { (i < R) × (i < 16 * S) × (j ≤ 8000) }
+        ensures { (gs : List Gate) (m : ℕ) → MemoryTrue gs self.old m i → i < m → is_gap (gate gs i) ≡ false
+            → Clear gs i j → Stops gs i j → MemoryTrue gs self.new m (i + 1) }
+    {
+        self.far[i] = j as u16 + SETTLED;
+        super::rows::raise_reach(&mut self.reach, i, j as u16);
+    }
+
+    // Row i is clear up to a place; answers up to where it is clear once whole stretches from there on are passed. They are not looked at on a short
+    // walk, and the row's record is read here, so that nothing is made ready for rows that walk no further.
+    pub fn pass_stretches(&mut self, b: &[u8], m: usize, i: usize, from: usize) -> usize
+        requires { BufferHolds b.now (gates_in b.now m) × MemoryTrue (gates_in b.now m) self.old m i
+            × (is_gap (gate (gates_in b.now m) i) ≡ false) × Clear (gates_in b.now m) i from }
+        ensures { MemoryTrue (gates_in b.now m) self.new m i × (from ≤ result) × Clear (gates_in b.now m) i result }
+    {
+        if from < i + 16 || from % 16 != 0 {
+            return from;
+        }
+        let seen = super::views::see_word(super::views::row_word(b, m, i));
+        for s in from / 16..m / 16 {
+            super::views::mark_stretch(b, &mut self.marks, m, s);
+            if !seen.meets_none(self.marks[s]) {
+                return 16 * s;
+            }
+        }
+        16 * (m / 16)
+    }
+}
