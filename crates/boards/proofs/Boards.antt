@@ -1,10 +1,6 @@
 -- Boards: a set is its members' numbers added, and what 1, 10 and 13 have let through is a good board. Assumes nothing.
-use mathlib.Core.Path.{◌≡◌, refl, ◌∙◌}
-use mathlib.Core.Bool.{Bool, true, false, cond, not}
-use mathlib.Core.List.{List, [], ◌∷◌, map}
-use Prim.Native.Nat.{ℕ, ◌+◌, ◌≤◌}
-use lib.Dec.{eqb, ltb}
-use borrow.Author.Tests.{le-ltb, ltb-false, not-false}
+use Rattle.std.proofs.Common.{◌≡◌, refl, ◌∙◌, Bool, true, false, cond, not, List, [], ◌∷◌, map, ℕ, ◌+◌, ◌≤◌, eqb, ltb, le-ltb, ltb-false}
+use Rattle.std.proofs.lemmas.Bool.{not-false}
 use Rattle.digits.specs.Digits.{digit}
 use Rattle.card.specs.Card.{Answer, Answer.accepted, refusing, lines_ok, on_lines}
 use Rattle.card.proofs.Cards.{refusing_no, refusing_passed, good_lines}

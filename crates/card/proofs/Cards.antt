@@ -1,14 +1,6 @@
 -- The laws of the card: which case an answer is, and what a room holds. Assumes nothing.
-use mathlib.Core.Path.{◌≡◌, refl, sym, ◌∙◌}
-use mathlib.Core.Bool.{Bool, true, false, not}
-use mathlib.Core.List.{List, ◌++◌}
-use Prim.Native.Nat.{ℕ, ◌+◌, ◌≤◌}
-use native.Mathlib.Nat.{zero-add}
-use native.Mathlib.Omega.{arith}
-use lib.Dec.{leb}
-use lib.ListN.{length, take, drop, length-append, length-drop}
-use lib.Seq.{sets, sets-eq, take_at}
-use borrow.Author.Tests.{leb-true, le-leb}
+use Rattle.std.proofs.Common.{◌≡◌, refl, sym, ◌∙◌, Bool, true, false, not, List, ◌++◌, ℕ, ◌+◌, ◌≤◌, zero-add, arith, leb, length, take, drop, take_at, leb-true, le-leb}
+use Rattle.std.proofs.lemmas.List.Edits.{sets, sets-eq}
 use Rattle.ranges.proofs.Bools.{and_left, and_right}
 use Rattle.card.specs.Card.{Answer, Answer.accepted, Answer.refused, refusing, lines_ok, on_lines, after, laid}
 
@@ -74,7 +66,3 @@ sets_laid xs room le =
 pub laid_front : (k : ℕ) (xs room : List ℕ) → length xs ≡ k → take k (laid xs room) ≡ xs
 unfolding laid
 laid_front k xs room e = take_at xs (drop (length xs) room) k e
-
-pub length_laid : (xs room : List ℕ) → length xs ≤ length room → length (laid xs room) ≡ length room
-unfolding laid
-length_laid xs room le = rw (length-append, length-drop) (omega arith)

@@ -1,8 +1,5 @@
 -- Refusals in front of an answer: they refuse it, whatever it is, or let it through. So what they do to one answer they do to every other. Assumes nothing.
-use mathlib.Core.Path.{◌≡◌, refl, sym, ◌∙◌}
-use mathlib.Core.Bool.{Bool, true, false, not}
-use mathlib.Core.List.{List}
-use Prim.Native.Nat.{ℕ}
+use Rattle.std.proofs.Common.{◌≡◌, refl, sym, ◌∙◌, Bool, true, false, not, List, ℕ}
 use Rattle.card.specs.Card.{Answer, Answer.accepted, Answer.refused, refusing, lines_ok, on_lines}
 use Rattle.card.proofs.Cards.{not_accepted, refusing_yes, refusing_no}
 

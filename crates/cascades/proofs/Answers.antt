@@ -1,14 +1,8 @@
 -- 1, 6 and 7 of bytes that should be records, whatever a good record is: what they say of the bytes, and that they do not depend on the answer behind them.
 -- Assumes nothing.
-use mathlib.Core.Path.{◌≡◌, refl, sym, ◌∙◌}
-use mathlib.Core.Bool.{Bool, true, false, not}
-use mathlib.Core.List.{List}
-use Prim.Native.Nat.{ℕ, ◌+◌, ◌-◌, ◌*◌, ◌%◌, ◌≤◌, ◌<◌}
-use native.Mathlib.Nat.{zero-add, sub-zero}
-use native.Mathlib.Omega.{arith}
-use lib.Dec.{eqb, ltb}
-use lib.ListN.{length}
-use borrow.Author.Tests.{lt-ltb, le-ltb, le-leb, leb-true, eqb-true, eq-eqb, ltb-true, ltb-false, not-false}
+use Rattle.std.proofs.Common.{◌≡◌, refl, sym, ◌∙◌, Bool, true, false, not, List, ℕ, ◌+◌, ◌-◌, ◌*◌, ◌%◌, ◌≤◌, ◌<◌, zero-add, arith, eqb, ltb, length, lt-ltb, le-ltb, le-leb, leb-true, eqb-true, eq-eqb, ltb-true, ltb-false}
+use Rattle.std.proofs.Math.Nat.{sub-zero}
+use Rattle.std.proofs.lemmas.Bool.{not-false}
 use Rattle.ranges.specs.Ranges.{first}
 use Rattle.ranges.proofs.Bools.{and_left, and_right, clash}
 use Rattle.ranges.proofs.Searches.{Found, found, first_more, first_hit, first_ends}

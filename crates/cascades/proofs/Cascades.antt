@@ -1,14 +1,9 @@
 -- What a list of gates computes: it stays within the patterns of its lines; and one turn of a loop that runs over the records. Assumes nothing.
-use mathlib.Core.Path.{◌≡◌, sym, ◌∙◌}
-use mathlib.Core.List.{List, [], ◌∷◌, ◌++◌}
-use Prim.Native.Nat.{ℕ, suc, ◌+◌, ◌-◌, ◌*◌, ◌^◌, ◌≤◌, ◌<◌}
-use native.Mathlib.Nat.{zero-add}
-use native.Mathlib.Omega.{arith}
-use lib.ListN.{length}
+use Rattle.std.proofs.Common.{◌≡◌, ◌∙◌, List, [], ◌∷◌, ◌++◌, ℕ, suc, ◌+◌, ◌*◌, ◌^◌, ◌<◌, zero-add, arith, length}
 use Rattle.ranges.specs.Ranges.{span}
 use Rattle.ranges.specs.Lists.{Each}
 use Rattle.ranges.proofs.Lists.{through_nil, through_cons, through_append}
-use Rattle.ranges.proofs.Spans.{length_span, span_more, span_ends, span_snoc, span_each}
+use Rattle.ranges.proofs.Spans.{length_span, span_snoc, span_each}
 use Rattle.card.proofs.Cards.{lines_are}
 use Rattle.gates.specs.declared.Gate.{Gate}
 use Rattle.gates.specs.Gates.{applied, IsGate}
@@ -38,14 +33,6 @@ gates_count b = length_span (gate_in b) 0 (records b)
 
 pub whole_cascade : (n : ℕ) (b : List ℕ) (m : ℕ) → Whole n b m → Cascade n (gates_of b)
 whole_cascade n b m w = record { gates = gates_good n b m w; most = omega (arith, gates_count b, w.size, w.most) }
-
--- ---- one turn of a loop over the records, and its end
-
-pub run_more : (b : List ℕ) (m i p : ℕ) → i < m → ran (span (gate_in b) (i + 1) (m - (i + 1))) (applied (gate_in b i) p) ≡ ran (span (gate_in b) i (m - i)) p
-run_more b m i p lt = sym (rw (span_more (gate_in b) m i lt) (through_cons applied (gate_in b i) (span (gate_in b) (i + 1) (m - (i + 1))) p))
-
-pub run_ends : (b : List ℕ) (m i p : ℕ) → m ≤ i → ran (span (gate_in b) i (m - i)) p ≡ p
-run_ends b m i p le = rw (span_ends (gate_in b) m i le) (through_nil applied p)
 
 -- the first i + 1 records, run
 pub run_snoc : (b : List ℕ) (i p : ℕ) → ran (span (gate_in b) 0 (i + 1)) p ≡ applied (gate_in b i) (ran (span (gate_in b) 0 i) p)

@@ -1,8 +1,6 @@
 -- 1, 6 and 7 of a cascade of ternary gates. What the answer of checking says: accepted, the bytes are gates; refused, so is every other call.
 -- Assumes nothing.
-use mathlib.Core.Path.{◌≡◌}
-use mathlib.Core.List.{List, [], ◌∷◌}
-use Prim.Native.Nat.{ℕ}
+use Rattle.std.proofs.Common.{◌≡◌, List, [], ◌∷◌, ℕ}
 use Rattle.card.specs.Card.{Answer, Answer.accepted, Answer.refused, on_lines}
 use Rattle.gates.specs.Records.{is_record}
 use Rattle.cascades.specs.Cascades.{records}

@@ -1,15 +1,8 @@
 -- The records of a cascade read back: they are whole records, each a gate on n lines (`bytes_whole`), and their gates are the cascade (`bytes_gates`);
 -- and the records of the gates that were read are the bytes (`bytes_again`).
 -- It rests on a record's being decided by its 8 bytes alone. Assumes nothing.
-use mathlib.Core.Path.{◌≡◌, refl, sym, ap, ◌∙◌}
-use mathlib.Core.Bool.{true}
-use mathlib.Core.List.{List, [], ◌∷◌, ◌++◌, append-nil}
-use Prim.Native.Nat.{ℕ, zero, suc, ◌+◌, ◌*◌, ◌≤◌, ◌<◌}
-use native.Mathlib.Nat.{add-zero, add_assoc}
-use native.Mathlib.Omega.{arith}
-use lib.ListN.{length, get_or, drop, length-append, drop_of_length-le}
-use lib.Seq.{sets, get_or-append-add}
-use borrow.Author.Tests.{le-leb}
+use Rattle.std.proofs.Common.{◌≡◌, refl, sym, ap, ◌∙◌, true, List, [], ◌∷◌, ◌++◌, append-nil, ℕ, zero, suc, ◌+◌, ◌*◌, ◌≤◌, ◌<◌, add-zero, add_assoc, arith, length, get_or, drop, length-append, drop_of_length-le, get_or-append-add, le-leb}
+use Rattle.std.proofs.lemmas.List.Edits.{sets}
 use Rattle.ranges.specs.Ranges.{span}
 use Rattle.ranges.specs.Lists.{Each}
 use Rattle.ranges.proofs.Tests.{every_ext}
@@ -26,7 +19,7 @@ use Rattle.cascades.specs.Inner.Checked.{Whole}
 use Rattle.cascades.proofs.Stored.{length_bytes, laid_gates}
 
 -- equal bytes are the same record
-record_ext : (n : ℕ) (b b' : List ℕ) (at at' : ℕ) → at + 8 ≤ length b → at' + 8 ≤ length b'
+pub record_ext : (n : ℕ) (b b' : List ℕ) (at at' : ℕ) → at + 8 ≤ length b → at' + 8 ≤ length b'
     → ((k : ℕ) → k < 8 → get_or b (at + k) 0 ≡ get_or b' (at' + k) 0) → is_record n b at ≡ is_record n b' at'
 unfolding is_record lines_ok_at
 record_ext n b b' at at' fits fits' h =

@@ -1,9 +1,6 @@
 -- The reversed list of the gates' inverses undoes the list, from either side, and is a cascade itself. Assumes nothing.
-use mathlib.Core.Path.{◌≡◌, refl, ◌∙◌}
-use mathlib.Core.List.{List, [], ◌∷◌, ◌++◌, map, reverse-cons}
-use Prim.Native.Nat.{ℕ}
-use native.Mathlib.Omega.{arith}
-use lib.ListN.{length, length-reverse, length-map}
+use Rattle.std.proofs.Common.{◌≡◌, refl, ◌∙◌, List, [], ◌∷◌, ◌++◌, map, ℕ, arith, length}
+use Rattle.std.proofs.lemmas.List.{length-reverse, length-map, reverse-append}
 use Rattle.ranges.specs.Lists.{Each, through}
 use Rattle.ranges.proofs.Lists.{through_nil, through_cons, each_map, each_reverse}
 use Rattle.gates.specs.declared.Gate.{Gate}
@@ -14,7 +11,7 @@ use Rattle.cascades.proofs.Cascades.{run_append}
 
 undoing_cons : (g : Gate) (gs : List Gate) → undoing (g ∷ gs) ≡ undoing gs ++ (inverse g ∷ [])
 unfolding undoing
-undoing_cons g gs = reverse-cons (inverse g) (map inverse gs)
+undoing_cons g gs = reverse-append (inverse g ∷ []) (map inverse gs)
 
 run_one : (g : Gate) (p : ℕ) → ran (g ∷ []) p ≡ applied g p
 run_one g p = through_cons applied g [] p ∙ through_nil applied (applied g p)

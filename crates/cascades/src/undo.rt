@@ -16,7 +16,7 @@ fn copy_inverse(lines: u8, cascade: &[u8], from: usize, room: &mut [u8], to: usi
 }
 
 // The inverses of the m gates, the last first, from the start of the room on. What checking has found stays a clause, `Whole`, here and in the functions
-// that go on: `tabulating::whole::write_table`, which the papers name, takes any bytes that meet it, and a type would ask for the check itself.
+// that go on: `tabulating::whole::write_table`, which docs/ARCHITECTURE.md names, takes any bytes that meet it, and a type would ask for the check itself.
 pub fn write_undoing(lines: u8, cascade: &[u8], m: usize, room: &mut [u8])
     requires whole { Whole lines cascade.now m }
     requires m_in_bounds { m ≤ length room.old / 8 }

@@ -1,16 +1,9 @@
 -- The frame of a file, over the trailer's size z and the edition e: what a right frame says of the bytes, what the file of a note and a cascade says
 -- when it is read, and that a right file is the file of its note and records. Assumes nothing.
-use mathlib.Core.Path.{◌≡◌, refl, sym, ◌∙◌}
-use mathlib.Core.Bool.{Bool, true, false, ◌&&◌}
-use mathlib.Core.Logic.{⊎_elim}
-use mathlib.Core.List.{List, [], ◌∷◌, ◌++◌, append_assoc}
-use Prim.Native.Nat.{ℕ, suc, ◌+◌, ◌-◌, ◌*◌, ◌/◌, ◌≤◌, ◌<◌}
-use native.Mathlib.Nat.{zero-add, add_assoc}
-use native.Mathlib.Omega.{arith}
-use lib.Dec.{eqb, leb}
-use lib.ListN.{length, get_or, set, take, drop, length-append, length-drop, get_or-append, take-append-drop, drop_of_length-le}
-use lib.Seq.{sets, length-take-le, take-add, get_or-append-add, drop-cons, drop-drop, drop-append_seam, take-append_seam}
-use borrow.Author.Tests.{leb-true, le-leb, eqb-true, eq-eqb}
+use Rattle.std.proofs.Common.{◌≡◌, refl, sym, ◌∙◌, Bool, true, false, ◌&&◌, ⊎_elim, List, [], ◌∷◌, ◌++◌, append_assoc, ℕ, suc, ◌+◌, ◌-◌, ◌*◌, ◌/◌, ◌≤◌, ◌<◌, zero-add, add_assoc, arith, eqb, leb, length, get_or, set, take, drop, length-append, length-drop, take-append-drop, drop_of_length-le, length-take-le, take-add, get_or-append-add, drop-cons, drop-drop, leb-true, le-leb, eqb-true, eq-eqb}
+use Rattle.std.proofs.Math.ListN.{get_or-append}
+use Rattle.std.proofs.lemmas.List.Edits.{sets}
+use Rattle.std.proofs.Math.Seq.{drop-append_seam, take-append_seam}
 use Rattle.ranges.proofs.Bools.{and_left, and_right, decide}
 use Rattle.ranges.proofs.Stores.{sets_append}
 use Rattle.digits.specs.Digits.{digit}

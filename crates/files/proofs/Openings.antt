@@ -1,11 +1,6 @@
 -- What opening a file says of every call behind 9, 1, 6 and 7. Assumes nothing.
-use mathlib.Core.Path.{◌≡◌, refl, sym, ap, ◌∙◌}
-use mathlib.Core.Bool.{true, false, not}
-use mathlib.Core.List.{List, [], ◌∷◌}
-use Prim.Native.Nat.{ℕ, ◌-◌, ◌/◌, ◌≤◌}
-use native.Mathlib.Omega.{arith}
-use lib.ListN.{length, take, drop}
-use borrow.Author.Tests.{not-false}
+use Rattle.std.proofs.Common.{◌≡◌, refl, sym, ap, ◌∙◌, true, false, not, List, [], ◌∷◌, ℕ, ◌-◌, ◌/◌, ◌≤◌, arith, length, take, drop}
+use Rattle.std.proofs.lemmas.Bool.{not-false}
 use Rattle.card.specs.Card.{Answer, Answer.accepted, Answer.refused, refusing, on_lines}
 use Rattle.card.proofs.Cards.{refusing_yes, refusing_no, refusing_passed}
 use Rattle.card.proofs.Fronts.{front, front_of, front_lines, front_refused}

@@ -1,10 +1,6 @@
 -- The two round trips of cascade files. `read_written`: reading what was written gives the lines, the records and the note. `written_read`: writing
 -- what was read from an accepted file gives that file, byte for byte. They rest on the laws of frames. Assumes nothing.
-use mathlib.Core.Path.{◌≡◌, sym, ◌∙◌}
-use mathlib.Core.List.{List, [], ◌∷◌}
-use Prim.Native.Nat.{ℕ, ◌*◌, ◌/◌, ◌≤◌}
-use native.Mathlib.Omega.{arith}
-use lib.ListN.{length, take}
+use Rattle.std.proofs.Common.{◌≡◌, sym, ◌∙◌, List, [], ◌∷◌, ℕ, ◌*◌, ◌/◌, ◌≤◌, arith, length, take}
 use Rattle.card.specs.Card.{Answer.accepted, laid}
 use Rattle.card.proofs.Cards.{after_accepted, laid_front}
 use Rattle.cascades.specs.Cascades.{records}

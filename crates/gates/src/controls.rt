@@ -11,7 +11,8 @@ pub fn control_on(controls: u16, k: usize) -> u16
     (controls >> (2 * k)) % 4
 }
 
-// The controls with that on line k replaced by v.
+// The controls with that on line k replaced by v. `digits::with_digit` does the same in base 3, but is handed the digit, since finding it divides: one
+// function over the radix would be slower for both.
 pub fn with_control(controls: u16, k: usize, v: u16) -> u16
     requires { (controls < 4 ^ 6) × (k < 6) × (v < 4) }
     ensures { result ≡ put 4 k controls v }

@@ -1,13 +1,6 @@
 -- Prices: how large a price can be, the price of an appended list, a loop that adds prices up. `cost_fits` bounds the cost of any cascade, `all_fitted`
 -- says which price is document 01's. Assumes nothing.
-use mathlib.Core.Path.{◌≡◌, refl, ap}
-use mathlib.Core.Logic.{⊎_elim}
-use mathlib.Core.Bool.{Bool, true, false, cond, ◌||◌}
-use mathlib.Core.List.{List, ◌++◌}
-use Prim.Native.Nat.{ℕ, zero, suc, ◌+◌, ◌-◌, ◌≤◌, ◌<◌}
-use native.Mathlib.Nat.{add_assoc, add-zero}
-use native.Mathlib.Omega.{arith}
-use lib.Dec.{eqb}
+use Rattle.std.proofs.Common.{◌≡◌, refl, ap, ⊎_elim, Bool, true, false, cond, ◌||◌, List, ◌++◌, ℕ, zero, suc, ◌+◌, ◌-◌, ◌≤◌, ◌<◌, add_assoc, add-zero, arith, eqb}
 use Rattle.ranges.proofs.Counts.{here_or_later}
 use Rattle.ranges.proofs.Bools.{one_at_most}
 use Rattle.ranges.specs.Ranges.{span}

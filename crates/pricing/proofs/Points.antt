@@ -1,11 +1,5 @@
 -- What pricing looks up: the points of three lines, the price of so many points, and for a gate its price. Assumes nothing.
-use mathlib.Core.Path.{◌≡◌, refl, sym, ap, ◌∙◌}
-use mathlib.Core.Bool.{Bool, true, false, cond, ◌||◌}
-use mathlib.Core.List.{List}
-use Prim.Native.Nat.{ℕ, zero, suc, ◌+◌, ◌*◌, ◌/◌, ◌%◌, ◌^◌, ◌≤◌, ◌<◌}
-use native.Mathlib.Omega.{arith}
-use lib.Dec.{eqb}
-use lib.ListN.{get_or}
+use Rattle.std.proofs.Common.{◌≡◌, refl, sym, ap, ◌∙◌, Bool, true, false, cond, ◌||◌, List, ℕ, zero, suc, ◌+◌, ◌*◌, ◌/◌, ◌%◌, ◌^◌, ◌≤◌, ◌<◌, arith, eqb, get_or}
 use Rattle.ranges.specs.Ranges.{sum}
 use Rattle.ranges.proofs.Sums.{sum_ext}
 use Rattle.digits.specs.Digits.{digit}
@@ -14,12 +8,7 @@ use Rattle.gates.specs.declared.Gate.{Gate}
 use Rattle.gates.specs.Gates.{control, IsGate, control_count}
 use Rattle.pricing.specs.Prices.{others, plain_price, gate_price}
 use Rattle.pricing.specs.Inner.Rates.{points, points_of, points_price, extra}
-use Rattle.pricing.proofs.Costs.{base_five, others_le, controls_le}
-
--- the price of so many points is 85 at most
-pub points_price_le : (p : ℕ) → p < 36 → points_price p ≤ 85
-unfolding points_price
-points_price_le p lt = omega (arith, base_five (p % 6) (omega arith))
+use Rattle.pricing.proofs.Costs.{others_le, controls_le}
 
 -- the points of three lines, as they are added up
 pub points_three : (v c : ℕ) → points v (digit 4 0 c) + points v (digit 4 1 c) + points v (digit 4 2 c) ≡ points_of 3 v c

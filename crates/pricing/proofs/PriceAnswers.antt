@@ -1,8 +1,6 @@
 -- What the answer of pricing says: accepted, the board is a good one and the bytes are gates; refused, so is every other call behind 1, 10, 13, 6 and
 -- 7. Assumes nothing.
-use mathlib.Core.Path.{◌≡◌, ◌∙◌}
-use mathlib.Core.List.{List, [], ◌∷◌}
-use Prim.Native.Nat.{ℕ}
+use Rattle.std.proofs.Common.{◌≡◌, ◌∙◌, List, [], ◌∷◌, ℕ}
 use Rattle.card.specs.Card.{Answer, Answer.accepted, Answer.refused}
 use Rattle.card.proofs.Cards.{good_lines}
 use Rattle.card.proofs.Fronts.{front_of, front_refused}

@@ -1,28 +1,19 @@
 -- What a reader hands out: at one place, case by case, and then turn after turn. `reader_gates`: over a file that opens, the gates of its records in
 -- order, and then the end for ever. Assumes nothing.
-use mathlib.Core.Path.{◌≡◌, refl, sym, ap, ◌∙◌}
-use mathlib.Core.Bool.{true, false}
-use mathlib.Core.List.{List, [], ◌∷◌, ◌++◌, map}
-use Prim.Native.Nat.{ℕ, zero, suc, ◌+◌, ◌*◌, ◌≤◌, ◌<◌}
-use native.Mathlib.Nat.{add-zero, zero-add, suc-add, add_assoc}
-use native.Mathlib.Omega.{arith}
-use denote.Ref.{Bor}
-use lib.Dec.{leb}
-use lib.ListN.{length, get_or, drop, replicate}
-use lib.Seq.{get_or-take, get_or-drop}
-use borrow.Author.Tests.{leb-true, le-leb, lt-leb}
+use Rattle.std.proofs.Common.{◌≡◌, refl, sym, ap, ◌∙◌, true, false, List, [], ◌∷◌, ◌++◌, map, ℕ, zero, suc, ◌+◌, ◌*◌, ◌≤◌, ◌<◌, zero-add, suc-add, add_assoc, arith, Bor, leb, length, get_or, drop, replicate, get_or-take, get_or-drop, leb-true, le-leb}
+use Rattle.std.proofs.lemmas.Bool.{lt-leb}
 use Rattle.ranges.specs.Ranges.{span}
 use Rattle.ranges.proofs.Bools.{and_right, and_both}
-use Rattle.ranges.proofs.Tests.{every_ext}
 use Rattle.std.specs.Prelude.{Ok, Err, None}
 use Rattle.card.specs.Card.{lines_ok, Answer.accepted}
 use Rattle.card.specs.declared.Refusal.{Refusal}
 use Rattle.gates.specs.declared.Gate.{Gate}
-use Rattle.gates.specs.Records.{line_ok, lines_ok_at, is_record, gate_at}
+use Rattle.gates.specs.Records.{is_record, gate_at}
 use Rattle.gates.specs.Inner.Decoding.{decoded}
-use Rattle.gates.proofs.Records.{reads, record_lines, gate_ext, decoded_is, gives, gives_no}
+use Rattle.gates.proofs.Records.{gate_ext, decoded_is, gives, gives_no}
 use Rattle.cascades.specs.Cascades.{gate_in, gates_of}
 use Rattle.cascades.specs.Inner.Checked.{Whole}
+use Rattle.cascades.proofs.Readings.{record_ext}
 use Rattle.files.specs.Files.{opening_answer, trailer_at, distance, count, lines_in, start_of, records_of}
 use Rattle.readers.specs.Readers.{Given, record_stands, as_given, given_at, place_after, turn_at, turn_of, moved_to, handed, Opened}
 use Rattle.readers.specs.declared.Reader.{Reader}
@@ -72,20 +63,6 @@ handed_turns (suc k) r = ap (λ (l : List Given). (turn_of r).given ∷ l) (hand
 
 -- ---- a record in a part of a file
 
--- the bytes alone decide whether they are a record
-record_moved : (n : ℕ) (b b' : List ℕ) (at at' : ℕ) → ((k : ℕ) → k < 8 → get_or b (at + k) 0 ≡ get_or b' (at' + k) 0) → at' + 8 ≤ length b'
-    → is_record n b at ≡ true → is_record n b' at' ≡ true
-unfolding lines_ok_at
-record_moved n b b' at at' h fits e =
-    let r = reads n b at e in
-    let o : get_or b at 0 ≡ get_or b' at' 0 = simp add-zero at (h 0 (omega arith)) in
-    let t : get_or b (at + 1) 0 ≡ get_or b' (at' + 1) 0 = h 1 (omega arith) in
-    record_lines n b' at' fits (omega (arith, r.op_low)) (omega (arith, r.op_high)) (omega (arith, r.on_line))
-    ∙ rw (← t)
-    (sym (every_ext (λ k. line_ok n (get_or b (at + 1) 0) k (get_or b (at + 2 + k) 0)) (λ k. line_ok n (get_or b (at + 1) 0) k (get_or b' (at' + 2 + k) 0)) 0 6
-    (λ k le lt. ap (line_ok n (get_or b (at + 1) 0) k) (rw (add_assoc at 2 k, add_assoc at' 2 k) (h (2 + k) (omega arith)))))
-    ∙ r.lines)
-
 module _ (f : List ℕ) (r : Right 8 1 f) (w : Whole (lines_in f) (records_of 8 f) (count f)) where
   -- the bytes of record i
   same_bytes : (i : ℕ) → i < count f → (k : ℕ) → k < 8 → get_or (records_of 8 f) (8 * i + k) 0 ≡ get_or f (start_of 8 f + 8 * i + k) 0
@@ -102,7 +79,7 @@ module _ (f : List ℕ) (r : Right 8 1 f) (w : Whole (lines_in f) (records_of 8 
   unfolding record_stands
   turn_at_lem i li =
       let inside : start_of 8 f + 8 * i + 8 ≤ length f = omega (arith, fits i li, trailer_fits 8 1 f r) in
-      let is = record_moved (lines_in f) (records_of 8 f) f (8 * i) (start_of 8 f + 8 * i) (same_bytes i li) inside (w.each i li) in
+      let is = sym (record_ext (lines_in f) (records_of 8 f) f (8 * i) (start_of 8 f + 8 * i) (omega (arith, w.size)) inside (same_bytes i li)) ∙ w.each i li in
       let g : gate_at (records_of 8 f) (8 * i) ≡ gate_at f (start_of 8 f + 8 * i) = gate_ext (records_of 8 f) f (8 * i) (start_of 8 f + 8 * i) (same_bytes i li) in
       let next : start_of 8 f + 8 * i + 8 ≡ start_of 8 f + 8 * (i + 1) = omega arith in
       turn_hands f (lines_in f) (start_of 8 f + 8 * i) (trailer_at 8 f) w.lines

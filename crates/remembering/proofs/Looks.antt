@@ -5,9 +5,11 @@ use Rattle.ranges.proofs.Counts.{by_place}
 use Rattle.ranges.proofs.Changes.{at_set}
 use Rattle.gates.specs.declared.Gate.{Gate}
 use Rattle.rules.specs.Tidying.{gate}
+use Rattle.remembering.specs.declared.buffer.Buffer.{Buffer}
 use Rattle.remembering.specs.declared.changes.Change.{Change}
 use Rattle.remembering.specs.declared.memory.Memory.{Memory}
-use Rattle.remembering.specs.Inner.Buffers.{gates_in, is_gap, GateOrGap, BufferHolds}
+use Rattle.remembering.specs.Inner.Buffers.{is_gap, GateOrGap}
+use Rattle.remembering.specs.Inner.LentBuffers.{held}
 use Rattle.remembering.specs.Inner.Rows.{Quiet, settled_mark, RowKnown, RowsKnown}
 use Rattle.remembering.specs.Inner.Views.{SeenAs}
 use Rattle.remembering.specs.Inner.GateChanges.{change_of, ChangeFits, RowsAhead, LookFits, LookedAgain, Looked}
@@ -18,10 +20,10 @@ abbrev after : List Gate → Change → List Gate
 after gs change = set gs change.place change.gate
 
 -- a change that is planned can be made
-pub planned_fits : (b : List ℕ) (change : Change) (m p : ℕ) (g : Gate) (from : ℕ) → change ≡ change_of m p g from change.seen → SeenAs g change.seen → m ≤ 8000 → p < m → from ≤ p
-    → GateOrGap g → BufferHolds b (gates_in b m) → ChangeFits b change
-planned_fits b change m p g from is seen few inside early either holds =
-    subst (ChangeFits b) (sym is) (record { few = few; inside = inside; early = early; either = either; seen = seen; holds = holds })
+pub planned_fits : (buffer : Buffer) (change : Change) (p : ℕ) (g : Gate) (from : ℕ) → change ≡ change_of p g from change.seen → SeenAs g change.seen → p < buffer.count → from ≤ p
+    → GateOrGap g → ChangeFits buffer change
+planned_fits buffer change p g from is seen inside early either =
+    subst (ChangeFits buffer) (sym is) (record { inside = inside; early = early; either = either; seen = seen })
 
 -- ---- the rows
 
@@ -79,12 +81,12 @@ module _ (gs : List Gate) (change : Change) where
 
 -- ---- the rows and the stretches, in a loop
 
-module _ {R S : ℕ} (b : List ℕ) (change : Change) (start : Memory R S) (x : ℕ) (fit : LookFits b start change x) where
-  module _ (memory : Memory R S) (y low : ℕ) (w : Looked (gates_in b change.count) change start memory x y low) (le : x ≤ y) where
-    pub looking_next : (later : Memory R S) (z q l : ℕ) → Looked (gates_in b change.count) change memory later y z q → y ≤ z → l ≤ low → l ≤ q → Looked (gates_in b change.count) change start later x z l
+module _ {R S : ℕ} (b : Buffer) (change : Change) (start : Memory R S) (x : ℕ) (fit : LookFits b start change x) where
+  module _ (memory : Memory R S) (y low : ℕ) (w : Looked (held b) change start memory x y low) (le : x ≤ y) where
+    pub looking_next : (later : Memory R S) (z q l : ℕ) → Looked (held b) change memory later y z q → y ≤ z → l ≤ low → l ≤ q → Looked (held b) change start later x z l
     looking_next later z q l v lz c d =
         record {
-          again = again_more (gates_in b change.count) change start.far memory.far later.far x y z low q l le lz c d w.again v.again;
+          again = again_more (held b) change start.far memory.far later.far x y z low q l le lz c d w.again v.again;
           bounds = v.bounds;
           marked = v.marked;
         }

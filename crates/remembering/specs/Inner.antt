@@ -1,4 +1,5 @@
 pub mod Buffers
+pub mod LentBuffers
 pub mod GateChanges
 pub mod Memories
 pub mod Rows

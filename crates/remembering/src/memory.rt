@@ -1,11 +1,13 @@
 // What the search remembers of the gates and gaps in a buffer.
-ghost use Rattle.std.specs.Prelude.{◌≡◌, false, List, ℕ, ◌+◌, ◌*◌, ◌≤◌, ◌<◌, get_or, MatchOption};
+ghost use Rattle.std.specs.Prelude.{◌≡◌, false, List, ℕ, ◌+◌, ◌*◌, ◌≤◌, ◌<◌, MatchOption};
 ghost use Rattle.gates.specs.declared.Gate.{Gate};
 ghost use Rattle.rules.specs.Tidying.{gate};
-ghost use Rattle.remembering.specs.Inner.Buffers.{gates_in, is_gap, BufferHolds};
-ghost use Rattle.remembering.specs.Inner.Rows.{settled_mark, Clear, Stops, NoPairBefore, NextRow};
+ghost use Rattle.remembering.specs.Inner.Buffers.{is_gap};
+ghost use Rattle.remembering.specs.Inner.LentBuffers.{held};
+ghost use Rattle.remembering.specs.Inner.Rows.{Clear, Stops, NoPairBefore, NextRow};
 ghost use Rattle.remembering.specs.Inner.Memories.{blank, RoomFor, MemoryTrue, MemoryFresh};
 
+use super::buffer::Buffer;
 use super::rows::SETTLED;
 use super::views::{Sets, UNKNOWN};
 
@@ -69,21 +71,21 @@ impl<const R: usize, const S: usize> Memory<R, S> {
 
     // Row i is clear up to a place; answers up to where it is clear once whole stretches from there on are passed. They are not looked at on a short
     // walk, and the row's record is read here, so that nothing is made ready for rows that walk no further.
-    pub fn pass_stretches(&mut self, b: &[u8], m: usize, i: usize, from: usize) -> usize
-        requires { BufferHolds b.now (gates_in b.now m) × MemoryTrue (gates_in b.now m) self.old m i
-            × (is_gap (gate (gates_in b.now m) i) ≡ false) × Clear (gates_in b.now m) i from }
-        ensures { MemoryTrue (gates_in b.now m) self.new m i × (from ≤ result) × Clear (gates_in b.now m) i result }
+    pub fn pass_stretches(&mut self, buffer: &Buffer, i: usize, from: usize) -> usize
+        requires { MemoryTrue (held buffer.now) self.old buffer.now.count i × (is_gap (gate (held buffer.now) i) ≡ false)
+            × Clear (held buffer.now) i from }
+        ensures { MemoryTrue (held buffer.now) self.new buffer.now.count i × (from ≤ result) × Clear (held buffer.now) i result }
     {
         if from < i + 16 || from % 16 != 0 {
             return from;
         }
-        let seen = super::views::see_word(super::views::row_word(b, m, i));
-        for s in from / 16..m / 16 {
-            super::views::mark_stretch(b, &mut self.marks, m, s);
+        let seen = super::views::see_word(buffer.word(i));
+        for s in from / 16..buffer.count / 16 {
+            super::views::mark_stretch(buffer, &mut self.marks, s);
             if !seen.meets_none(self.marks[s]) {
                 return 16 * s;
             }
         }
-        16 * (m / 16)
+        16 * (buffer.count / 16)
     }
 }

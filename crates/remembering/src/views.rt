@@ -1,11 +1,12 @@
 // A gate as the others see it, in two numbers, and the same of sixteen gates at once: a row passes sixteen places by one test.
 ghost use Rattle.std.specs.Prelude.{◌≡◌, true, ◌+◌, ◌*◌, ◌^◌, ◌≤◌, ◌<◌};
 ghost use Rattle.gates.specs.Inner.Words.{gate_of, GateWord};
-ghost use Rattle.rules.specs.Tidying.{gate};
-ghost use Rattle.remembering.specs.Inner.Buffers.{gates_in, GateOrGap, BufferHolds};
+ghost use Rattle.remembering.specs.Inner.Buffers.{GateOrGap};
+ghost use Rattle.remembering.specs.Inner.LentBuffers.{held};
 ghost use Rattle.remembering.specs.Inner.Views.{shunned, own_part, view_of, other_part, against_of, six_bits, kind_of, SeenAs, MeetsNone};
-ghost use Rattle.remembering.specs.Inner.Views.{StretchPassed, StretchesMarked, BufferMarked};
+ghost use Rattle.remembering.specs.Inner.Views.{StretchPassed, StretchesMarked};
 
+use super::buffer::Buffer;
 use gates::Gate;
 
 // Two sets: of types on each line, and of kinds. Of a stretch of sixteen places they are what stands there, of a gate what it must not meet.
@@ -100,14 +101,6 @@ fn kind(w: u64) -> u64
     1 << fold_marks(gates::words::mark_controls(w))
 }
 
-// Record k.
-pub fn row_word(b: &[u8], m: usize, k: usize) -> u64
-    requires { BufferHolds b.now (gates_in b.now m) × (k < m) }
-    ensures { GateWord result × (gate_of result ≡ gate (gates_in b.now m) k) }
-{
-    gates::words::word_at(b, 8 * k)
-}
-
 // What the gate with the word w must not meet of a stretch, for its gates to pass it.
 pub fn see_word(w: u64) -> Sets
     requires { GateWord w }
@@ -131,14 +124,14 @@ pub fn see_gate(g: Gate) -> Sets
 }
 
 // The sixteen places from x on.
-fn stretch_of(b: &[u8], m: usize, x: usize) -> Sets
-    requires { BufferHolds b.now (gates_in b.now m) × (x + 16 ≤ m) }
-    ensures { StretchPassed (gates_in b.now m) x (x + 16) result }
+fn stretch_of(buffer: &Buffer, x: usize) -> Sets
+    requires { x + 16 ≤ buffer.now.count }
+    ensures { StretchPassed (held buffer.now) x (x + 16) result }
 {
     let mut types = 0;
     let mut kinds = 0;
     for k in x..x + 16 {
-        let w = row_word(b, m, k);
+        let w = buffer.word(k);
         types |= view(w);
         kinds |= kind(w);
     }
@@ -146,11 +139,11 @@ fn stretch_of(b: &[u8], m: usize, x: usize) -> Sets
 }
 
 // Stretch s is known.
-pub fn mark_stretch(b: &[u8], marks: &mut [Sets], m: usize, s: usize)
-    requires { BufferMarked b.now marks.old m × (16 * s + 16 ≤ m) }
-    ensures { StretchesMarked (gates_in b.now m) marks.new }
+pub fn mark_stretch(buffer: &Buffer, marks: &mut [Sets], s: usize)
+    requires { StretchesMarked (held buffer.now) marks.old × (16 * s + 16 ≤ buffer.now.count) }
+    ensures { StretchesMarked (held buffer.now) marks.new }
 {
     if marks[s].kinds == ALL {
-        marks[s] = stretch_of(b, m, 16 * s);
+        marks[s] = stretch_of(buffer, 16 * s);
     }
 }

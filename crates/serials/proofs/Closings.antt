@@ -1,12 +1,5 @@
 -- The end of a text, case by case: what stands then, and what the lent table holds. Assumes nothing.
-use mathlib.Core.Path.{◌≡◌, refl, sym, ap, ◌∙◌}
-use mathlib.Core.Bool.{Bool, true, false, not}
-use mathlib.Core.List.{List, [], ◌∷◌}
-use Prim.Native.Nat.{ℕ, ◌^◌, ◌≤◌, ◌<◌}
-use native.Mathlib.Omega.{arith}
-use lib.Dec.{eqb}
-use lib.ListN.{length}
-use borrow.Author.Tests.{lt-ltb, le-ltb, eq-eqb, ne_eqb}
+use Rattle.std.proofs.Common.{◌≡◌, refl, sym, ap, ◌∙◌, Bool, true, false, not, List, [], ◌∷◌, ℕ, ◌^◌, ◌≤◌, ◌<◌, arith, eqb, length, lt-ltb, le-ltb, eq-eqb, ne_eqb}
 use Rattle.ranges.proofs.Searches.{found}
 use Rattle.card.specs.Card.{Answer, Answer.accepted, Answer.refused, place, refusing, on_lines, after, laid}
 use Rattle.card.proofs.Cards.{refusing_yes, refusing_no, after_refused}

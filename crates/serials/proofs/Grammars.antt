@@ -1,15 +1,9 @@
 -- The grammar and the wrong bytes are one: `text_right` says that a text of the grammar has no wrong byte below offset 65,535, and which numbers it has; `right_text`
 -- that a text without a wrong byte that does not end in a digit is one of the grammar; `begun` and `not_begun` which texts begin one. Assumes nothing.
-use mathlib.Core.Path.{◌≡◌, refl, sym, ap, ◌∙◌}
-use mathlib.Core.Logic.{⊎_elim}
-use mathlib.Core.Bool.{true, false, not}
-use mathlib.Core.List.{List, [], ◌∷◌, ◌++◌, append_assoc, append-nil}
-use Prim.Native.Nat.{ℕ, zero, suc, ◌+◌, ◌-◌, ◌*◌, ◌/◌, ◌%◌, ◌≤◌, ◌<◌}
-use native.Mathlib.Omega.{arith}
-use lib.Dec.{ltb}
-use lib.ListN.{length, get_or, take, drop, length-append, take-append-drop, get_or-append}
-use lib.Seq.{get_or-append_seam, take-suc, take-length, length-take-le}
-use borrow.Author.Tests.{le-leb, eq-eqb, ne_eqb, ltb-false, not-false}
+use Rattle.std.proofs.Common.{◌≡◌, refl, sym, ap, ◌∙◌, ⊎_elim, true, false, not, List, [], ◌∷◌, ◌++◌, append_assoc, append-nil, ℕ, zero, suc, ◌+◌, ◌-◌, ◌*◌, ◌/◌, ◌%◌, ◌≤◌, ◌<◌, arith, ltb, length, get_or, take, drop, length-append, take-append-drop, take-suc, length-take-le, le-leb, eq-eqb, ne_eqb, ltb-false}
+use Rattle.std.proofs.Math.ListN.{get_or-append}
+use Rattle.std.proofs.Math.Seq.{get_or-append_seam, take-length}
+use Rattle.std.proofs.lemmas.Bool.{not-false}
 use Rattle.ranges.proofs.Bools.{and_right, or_left, or_right, decide, clash}
 use Rattle.ranges.proofs.Counts.{lt_or_le, here_or_later}
 use Rattle.texts.specs.Texts.{decimal}

@@ -1,16 +1,9 @@
 -- What a reader holds after the first k bytes of a text is what the definitions on the whole text say of them: `reads_next` is one byte more, `reads_whole` the whole
 -- text. Assumes nothing.
-use mathlib.Core.Path.{◌≡◌, refl, sym, ap, ap₂, ◌∙◌}
-use mathlib.Core.Logic.{◌⊎◌, ⊎_elim}
-use mathlib.Core.Bool.{true, false, cond}
-use mathlib.Core.List.{List, [], ◌∷◌, ◌++◌}
-use Prim.Native.Nat.{ℕ, zero, suc, ◌+◌, ◌≤◌, ◌<◌, min}
-use native.Mathlib.Numerals.{add-one}
-use native.Mathlib.Omega.{arith}
-use lib.Dec.{ltb}
-use lib.ListN.{length, get_or, drop, set, length-append, length-set, length-replicate, get_or-append}
-use lib.Seq.{get_or-set_same, get_or-set_other, get_or-append_seam}
-use borrow.Author.Tests.{lt-ltb, le-ltb}
+use Rattle.std.proofs.Common.{◌≡◌, refl, sym, ap, ap₂, ◌∙◌, ◌⊎◌, ⊎_elim, true, false, cond, List, [], ◌∷◌, ◌++◌, ℕ, zero, suc, ◌+◌, ◌≤◌, ◌<◌, min, add-one, arith, ltb, length, get_or, drop, set, length-append, length-set, get_or-set_same, get_or-set_other, lt-ltb, le-ltb}
+use Rattle.std.proofs.lemmas.List.{length-replicate}
+use Rattle.std.proofs.Math.ListN.{get_or-append}
+use Rattle.std.proofs.Math.Seq.{get_or-append_seam}
 use Rattle.ranges.proofs.Bools.{decide}
 use Rattle.ranges.proofs.Counts.{lt_or_le, here_or_later, one_more}
 use Rattle.card.specs.Card.{lines_ok}

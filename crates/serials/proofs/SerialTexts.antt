@@ -1,11 +1,5 @@
 -- Bytes of a text: what a digit is, and which byte can follow which. Assumes nothing.
-use mathlib.Core.Path.{◌≡◌}
-use mathlib.Core.Logic.{⊎_elim}
-use mathlib.Core.Bool.{Bool, true, false, cond, not, ◌&&◌, ◌||◌}
-use Prim.Native.Nat.{ℕ, ◌≤◌}
-use native.Mathlib.Omega.{arith}
-use lib.Dec.{eqb, leb}
-use borrow.Author.Tests.{leb-true, ne_eqb}
+use Rattle.std.proofs.Common.{◌≡◌, ⊎_elim, Bool, true, false, cond, not, ◌&&◌, ◌||◌, ℕ, ◌≤◌, arith, eqb, leb, leb-true, ne_eqb}
 use Rattle.ranges.proofs.Bools.{and_left, and_right, decide, clash}
 use Rattle.serials.specs.SerialTexts.{is_digit, is_mark, follows}
 

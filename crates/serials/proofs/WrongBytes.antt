@@ -1,10 +1,5 @@
 -- Which byte of a text is wrong, and what the numbers before an offset are one byte later. Assumes nothing.
-use mathlib.Core.Path.{◌≡◌, refl}
-use mathlib.Core.Bool.{true, false}
-use mathlib.Core.List.{List, [], ◌∷◌, ◌++◌}
-use Prim.Native.Nat.{ℕ, suc, ◌≤◌, ◌<◌}
-use lib.ListN.{get_or}
-use borrow.Author.Tests.{lt-ltb, le-ltb}
+use Rattle.std.proofs.Common.{◌≡◌, refl, true, false, List, [], ◌∷◌, ◌++◌, ℕ, suc, ◌≤◌, ◌<◌, get_or, lt-ltb, le-ltb}
 use Rattle.serials.specs.SerialTexts.{is_digit, is_mark, with_digit, follows, byte_before, number_to, number_start, numbers_to, can_stand, wrong_byte, wrong_place}
 use Rattle.serials.proofs.SerialTexts.{digit_unmarked, mark_no_digit}
 

@@ -1,19 +1,11 @@
 -- How long a file's text is. A file is refused or holds a permutation (`file_is`), whose cascade has at most 4,010 gates.
 -- `sheet_most` bounds the text of any bytes, `sheet_accepted` says that the program's room takes them all, and `cut_alike` that the bytes which the
 -- program does not read change nothing. Assumes nothing.
-use mathlib.Core.Path.{◌≡◌, refl, sym, ap, ◌∙◌}
-use mathlib.Core.Bool.{true, false}
-use mathlib.Core.Logic.{◌⊎◌}
-use mathlib.Core.List.{List, [], ◌∷◌}
-use Prim.Native.Nat.{ℕ, ◌+◌, ◌*◌, ◌^◌, ◌≤◌, ◌<◌}
-use native.Mathlib.Omega.{arith}
-use lib.ListN.{length, take, length-take}
-use lib.Seq.{length-take-le, take_all, take_at, get_or-take}
-use borrow.Author.Tests.{le-ltb, not-false}
+use Rattle.std.proofs.Common.{◌≡◌, refl, sym, ap, ◌∙◌, true, false, ◌⊎◌, List, [], ◌∷◌, ℕ, ◌+◌, ◌*◌, ◌^◌, ◌≤◌, ◌<◌, arith, length, take, length-take, length-take-le, take_all, take_at, get_or-take, le-ltb, Result, Ok, Err}
+use Rattle.std.proofs.lemmas.Bool.{not-false}
 use Rattle.ranges.proofs.Bools.{decide}
 use Rattle.ranges.proofs.Counts.{lt_or_le}
 use Rattle.card.specs.Card.{Answer, Answer.accepted, Answer.refused, lines_ok, on_lines, laid}
-use Rattle.std.proofs.Common.{Result, Ok, Err}
 use Rattle.std.specs.Result.{IsOk}
 use Rattle.card.specs.declared.Refusal.{Refusal}
 use Rattle.card.specs.Answers.{number_as}

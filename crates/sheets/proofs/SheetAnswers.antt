@@ -1,13 +1,7 @@
 -- What a table file is answered: 1 and 2 by its first byte and its length, 3 and 4 by its entries, and else the listing of the synthesized cascade.
 -- `listing_sheet` and `room_sheet` say that to list the cascade's records is to write the file's text. Assumes nothing.
-use mathlib.Core.Path.{◌≡◌, sym, ap, ◌∙◌}
-use mathlib.Core.Bool.{true, false, not}
-use mathlib.Core.List.{List, [], ◌∷◌, ◌++◌, append_assoc}
-use Prim.Native.Nat.{ℕ, ◌+◌, ◌*◌, ◌/◌, ◌^◌, ◌≤◌, ◌<◌}
-use native.Mathlib.Omega.{arith}
-use lib.ListN.{length, length-append}
-use lib.Seq.{sets}
-use borrow.Author.Tests.{eq-eqb, ne_eqb, lt-ltb, le-ltb}
+use Rattle.std.proofs.Common.{◌≡◌, sym, ap, ◌∙◌, true, false, not, List, [], ◌∷◌, ◌++◌, append_assoc, ℕ, ◌+◌, ◌*◌, ◌/◌, ◌^◌, ◌≤◌, ◌<◌, arith, length, length-append, eq-eqb, ne_eqb, lt-ltb, le-ltb}
+use Rattle.std.proofs.lemmas.List.Edits.{sets}
 use Rattle.card.specs.Card.{Answer.accepted, Answer.refused, lines_ok, after, laid}
 use Rattle.card.proofs.Fronts.{front_refused}
 use Rattle.card.proofs.Cards.{lines_are, no_lines, good_lines, refusing_yes, refusing_no, accepted_both, sets_laid}

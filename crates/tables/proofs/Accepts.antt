@@ -1,20 +1,12 @@
 -- Which tables are accepted. `table_accepted` says what an answer behind 2, 3 and 4 tells, `checked_refused` and `checked_accepted` what a check leaves to the calls that go on,
 -- and `accepted_iff` that a table is accepted exactly if the lines are 1 to 6 and it is a permutation of the patterns.
 -- It rests on what the first entry with a property says of those before it. Assumes nothing.
-use mathlib.Core.Path.{◌≡◌, sym, ap, ◌∙◌}
-use mathlib.Core.Logic.{◌⊎◌, ⊎_elim, ◌↔◌}
-use mathlib.Core.Bool.{Bool, true, false, not}
-use mathlib.Core.List.{List, []}
-use Prim.Native.Nat.{ℕ, ◌^◌, ◌≤◌, ◌<◌}
-use native.Mathlib.Omega.{arith}
-use lib.Dec.{eqb, ltb}
-use lib.ListN.{length, get_or}
-use borrow.Author.Tests.{eqb-true, eqb-false, eq-eqb, ne_eqb, ltb-true, ltb-false, lt-ltb, le-ltb, leb-false, lt-leb, not-false}
+use Rattle.std.proofs.Common.{◌≡◌, sym, ap, ◌∙◌, ◌⊎◌, ⊎_elim, ◌↔◌, Bool, true, false, not, List, [], ℕ, ◌^◌, ◌≤◌, ◌<◌, arith, eqb, ltb, length, get_or, eqb-true, eq-eqb, ne_eqb, ltb-true, ltb-false, lt-ltb, le-ltb, leb-false, Some, None, position, leb}
+use Rattle.std.proofs.lemmas.Bool.{eqb-false, lt-leb, not-false}
 use Rattle.ranges.specs.Ranges.{first}
 use Rattle.ranges.proofs.Bools.{decide, clash}
 use Rattle.ranges.proofs.Counts.{lt_or_le}
 use Rattle.ranges.proofs.Tests.{some_none, some_not}
-use Rattle.std.proofs.Common.{Some, None, position, leb}
 use Rattle.ranges.specs.Inner.Places.{found_at}
 use Rattle.ranges.proofs.Searches.{found}
 use Rattle.ranges.proofs.Places.{position_first, found_some, found_none}

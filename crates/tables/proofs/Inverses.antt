@@ -1,15 +1,7 @@
 -- The pass that fills a table's inverse finds the first entry that equals an earlier one: before entry i each value leads back to its row, so a value stood
 -- before exactly if its place names an earlier row that holds it. Assumes nothing.
-use mathlib.Core.Path.{◌≡◌, sym, ap, ◌∙◌}
-use mathlib.Core.List.{List}
-use Prim.Native.Nat.{ℕ, ◌+◌, ◌-◌, ◌≤◌, ◌<◌}
-use native.Mathlib.Nat.{sub-zero}
-use native.Mathlib.Omega.{arith}
-use lib.ListN.{length, get_or, set, take}
-use lib.Seq.{get_or-set_same, get_or-set_other, get_or-take, length-take-le}
-use lib.Dec.{eqb}
-use borrow.Author.Tests.{eq-eqb, ne_eqb}
-use borrow.Author.Count.{below_more}
+use Rattle.std.proofs.Common.{◌≡◌, sym, ap, ◌∙◌, List, ℕ, ◌+◌, ◌-◌, ◌≤◌, ◌<◌, arith, length, get_or, set, take, get_or-set_same, get_or-set_other, get_or-take, length-take-le, eqb, eq-eqb, ne_eqb, below_more}
+use Rattle.std.proofs.Math.Nat.{sub-zero}
 use Rattle.ranges.specs.Ranges.{first}
 use Rattle.ranges.proofs.Tests.{some_hit, some_not}
 use Rattle.ranges.proofs.Searches.{first_more, first_hit, first_ends}

@@ -23,7 +23,8 @@ impl Writer<'_> {
         self.at = end;
     }
 
-    // The digits of x. The lowest is found first, so they are stored from the last place down.
+    // The digits of x. The lowest is found first, so they are stored from the last place down. `write!` would want an `impl fmt::Write` for the room, with
+    // an error where it is full, which it never is.
     pub fn write_decimal(&mut self, x: usize)
         requires { HasRoom self.old (decimal x) }
         ensures { Wrote self.old (decimal x) self.new }

@@ -3,12 +3,14 @@ ghost use Rattle.std.specs.Prelude.{◌≡◌, ◌≤◌, ◌<◌, set};
 ghost use Rattle.gates.specs.Inner.Words.{gate_of, GateWord};
 ghost use Rattle.rules.specs.Tidying.{ruled};
 ghost use Rattle.rules.specs.Inner.NamedRules.{rule_for};
-ghost use Rattle.remembering.specs.Inner.Buffers.{gates_in, ungapped, rank};
+ghost use Rattle.remembering.specs.Inner.Buffers.{ungapped, rank};
+ghost use Rattle.remembering.specs.Inner.LentBuffers.{held, SameRecords};
 ghost use Rattle.remembering.specs.Inner.GateChanges.{ChangeFits};
 ghost use Rattle.tidying.specs.Inner.PairSearches.{Remembers, PairAt, left_by};
 
 use super::pairs::Pair;
 use gates::Gate;
+use remembering::buffer::Buffer;
 use remembering::changes::Change;
 use remembering::memory::Memory;
 use rules::fitting::{Left, Rule};
@@ -43,37 +45,35 @@ fn leave_pair(g: u64, h: u64) -> Left
 
 // The change is made in the buffer; answers the lowest row that may have a pair then.
 fn replace<const R: usize, const S: usize>(
-    b: &mut [u8],
+    buffer: &mut Buffer,
     memory: &mut Memory<R, S>,
     change: Change,
 ) -> usize
-    requires { ChangeFits b.old change × Remembers b.old memory.old change.count change.from }
-    ensures { Remembers b.new memory.new change.count result × (result ≤ change.from)
-        × (gates_in b.new change.count ≡ set (gates_in b.old change.count) change.place change.gate) }
+    requires { ChangeFits buffer.old change × Remembers buffer.old memory.old change.from }
+    ensures same_records { SameRecords buffer.old buffer.new }
+    ensures remembers { Remembers buffer.new memory.new result × (result ≤ change.from) }
+    ensures gates_after { held buffer.new ≡ set (held buffer.old) change.place change.gate }
 {
-    let low = memory.settle_rows(b, change);
-    gates::encode(change.gate, b, 8 * change.place);
+    let low = memory.settle_rows(buffer, change);
+    buffer.set(change.place, change.gate);
     low
 }
 
-// The rule that fits the first pair of m places; answers the lowest row that may have a pair then.
+// The rule that fits the first pair; answers the lowest row that may have a pair then.
 pub fn apply_rule<const R: usize, const S: usize>(
-    b: &mut [u8],
+    buffer: &mut Buffer,
     memory: &mut Memory<R, S>,
-    m: usize,
     pair: Pair,
 ) -> usize
-    requires { Remembers b.old memory.old m pair.i × PairAt (gates_in b.old m) pair }
-    ensures remembers { Remembers b.new memory.new m result }
-    ensures gates_after { ungapped (gates_in b.new m)
-        ≡ ruled (ungapped (gates_in b.old m)) (rank (gates_in b.old m) pair.i) (rank (gates_in b.old m) pair.j) }
+    requires { Remembers buffer.old memory.old pair.i × PairAt (held buffer.old) pair }
+    ensures same_records { SameRecords buffer.old buffer.new }
+    ensures remembers { Remembers buffer.new memory.new result }
+    ensures gates_after { ungapped (held buffer.new)
+        ≡ ruled (ungapped (held buffer.old)) (rank (held buffer.old) pair.i) (rank (held buffer.old) pair.j) }
 {
-    let left = leave_pair(
-        remembering::views::row_word(b, m, pair.i),
-        remembering::views::row_word(b, m, pair.j),
-    );
-    let late = Change::new(m, pair.j, left.second, pair.i);
-    let low = replace(b, memory, late);
-    let early = Change::new(m, pair.i, left.first, low);
-    replace(b, memory, early)
+    let left = leave_pair(buffer.word(pair.i), buffer.word(pair.j));
+    let late = Change::new(pair.j, left.second, pair.i);
+    let low = replace(buffer, memory, late);
+    let early = Change::new(pair.i, left.first, low);
+    replace(buffer, memory, early)
 }

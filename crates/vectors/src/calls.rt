@@ -43,7 +43,7 @@ fn digest_cheaper(case: &StoredCase, first: &[u8], second: &[u8]) -> Fnv {
 }
 
 // The line of the call. In choose, which has no room, what cheaper hands back stands for it.
-pub fn find_line(case: &StoredCase, given: &mut Given, rooms: &mut Rooms) -> Line {
+pub fn show_call(case: &StoredCase, given: &mut Given, rooms: &mut Rooms) -> Line {
     let more = given.more;
     let mut serial_told = Fnv::default();
     let told = perform(case, given, rooms, &mut serial_told);

@@ -48,7 +48,7 @@ fn table_len(call: Call, in_bytes: usize) -> Option<usize> {
 }
 
 // Reads what the case gives, performs its call and returns its line; none where it has more than it may, or the input ends before it.
-pub fn find_line<R: Read>(input: &mut R, case: &StoredCase) -> io::Result<Option<Line>> {
+pub fn answer_case<R: Read>(input: &mut R, case: &StoredCase) -> io::Result<Option<Line>> {
     let in_bytes = 8 * case.times as usize + case.stored as usize;
     let in_more = 8 * case.more_times as usize + case.more_stored as usize;
     let Some(in_table) = table_len(case.call, in_bytes) else {
@@ -72,5 +72,5 @@ pub fn find_line<R: Read>(input: &mut R, case: &StoredCase) -> io::Result<Option
     }
     lay_table(bytes, table);
     let mut given = Given { table, bytes, more };
-    Ok(rooms::find_line(case, &mut given))
+    Ok(rooms::lend_rooms(case, &mut given))
 }

@@ -25,7 +25,7 @@ pub enum Call {
 
 // A number that no call has.
 #[derive(Clone, Copy)]
-pub struct UnknownCall(pub u32);
+pub struct UnknownCall;
 
 impl TryFrom<u32> for Call {
     type Error = UnknownCall;
@@ -50,7 +50,7 @@ impl TryFrom<u32> for Call {
             16 => Ok(Call::ReadNames),
             17 => Ok(Call::WriteNames),
             18 => Ok(Call::Serial),
-            _ => Err(UnknownCall(number)),
+            _ => Err(UnknownCall),
         }
     }
 }

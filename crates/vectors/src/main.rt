@@ -19,7 +19,7 @@ fn next_line<R: Read>(input: &mut R) -> io::Result<Option<Line>> {
         return Ok(None);
     }
     match heads::find_case(&head) {
-        Some(case) => given::find_line(input, &case),
+        Some(case) => given::answer_case(input, &case),
         None => Ok(None),
     }
 }

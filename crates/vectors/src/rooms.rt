@@ -13,7 +13,7 @@ pub struct Rooms<'a> {
 }
 
 // Performs the case's call and returns its line; none where the case has more room than it may.
-pub fn find_line(case: &StoredCase, given: &mut Given) -> Option<Line> {
+pub fn lend_rooms(case: &StoredCase, given: &mut Given) -> Option<Line> {
     let mut bytes = [case.fill; 262144];
     let mut entries = [case.fill_entry(); 1024];
     let mut note = [case.fill; 2048];
@@ -27,5 +27,5 @@ pub fn find_line(case: &StoredCase, given: &mut Given) -> Option<Line> {
         entries: entries.get_mut(..in_entries)?,
         note: note.get_mut(..case.note_room as usize)?,
     };
-    Some(calls::find_line(case, given, &mut rooms))
+    Some(calls::show_call(case, given, &mut rooms))
 }

@@ -1,5 +1,6 @@
 -- `card::lines_ok` meets its contract. Assumes nothing.
-use borrow.Author.Tests.{le-leb, lt-leb}
+use Rattle.std.proofs.Common.{le-leb}
+use Rattle.std.proofs.lemmas.Bool.{lt-leb}
 use Rattle.card.specs.Card.{lines_ok}
 use Rattle.card.proofs.lines_ok.Goals as goal
 

@@ -1,6 +1,5 @@
 -- `cascades::invert` meets its contract: each return is a case of `invert_answer`. Assumes nothing.
-use Rattle.std.proofs.Common.{◌≡◌, refl, sym, ◌∙◌, List, ℕ, ◌*◌, length, arith}
-use borrow.Author.Tests.{lt-ltb, le-ltb}
+use Rattle.std.proofs.Common.{◌≡◌, refl, sym, ◌∙◌, List, ℕ, ◌*◌, length, arith, lt-ltb, le-ltb}
 use Rattle.card.proofs.Cards.{refusing_yes, refusing_no, accepted_both, sets_laid}
 use Rattle.card.proofs.Exits.{exit_both}
 use Rattle.cascades.specs.Cascades.{records, gates_of, bytes_of, undoing}
@@ -27,10 +26,8 @@ returns-in_err-check_room c =
     let short = rw (check_count _ _ _ e) at c.in_err-check_room.ensures in
     exit_both _ _ _ short.1 _ c.from_residual-in_err-check_room.ensures.1 _ _ _ (passed _ _ _ _ w ∙ refusing_yes _ _ _ _ (lt-ltb _ _ short.0))
 
-pub write_undoing-requires : goal.write_undoing-requires
-write_undoing-requires c =
-    let e = sym c.in_ok-m.ensures in
-    record { whole = rw (check_count _ _ _ e) (check_whole _ _ _ e); m_in_bounds = c.in_ok-check_room.ensures }
+pub write_undoing-requires-clause-whole : goal.write_undoing-requires-clause-whole
+write_undoing-requires-clause-whole c = let e = sym c.in_ok-m.ensures in rw (check_count _ _ _ e) (check_whole _ _ _ e)
 
 pub returns : goal.returns
 unfolding invert_answer invert_room

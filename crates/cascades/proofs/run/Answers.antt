@@ -1,6 +1,6 @@
 -- `cascades::run` meets its contract: each return is a case of `run_answer`. Assumes nothing.
-use Rattle.std.proofs.Common.{refl, sym, ap, ◌∙◌}
-use borrow.Author.Tests.{le-leb, lt-leb}
+use Rattle.std.proofs.Common.{refl, sym, ap, ◌∙◌, le-leb}
+use Rattle.std.proofs.lemmas.Bool.{lt-leb}
 use Rattle.card.proofs.Cards.{no_lines, good_lines, lines_are, refusing_yes, refusing_no}
 use Rattle.card.proofs.Exits.{exit}
 use Rattle.cascades.specs.Answers.{on_cascade, run_answer}
@@ -13,9 +13,6 @@ returns-in_err-check_lines c = exit _ _ _ c.in_err-check_lines.ensures.1 _ c.fro
 
 pub power-requires : goal.power-requires
 power-requires c = (lines_are _ c.in_ok-check_lines.ensures).1
-
-pub run_on-requires : goal.run_on-requires
-run_on-requires c = (c.in_ok-check_lines.ensures, rw (← c.power.ensures) c.if-pattern-power.true)
 
 pub returns-then-pattern-power : goal.returns-then-pattern-power
 unfolding run_answer

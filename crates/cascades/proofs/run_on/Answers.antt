@@ -1,6 +1,5 @@
 -- `cascades::run_on` meets its contract: the loop keeps the lines of the pattern that the gates so far make of the pattern given. Assumes nothing.
-use Rattle.std.proofs.Common.{◌≡◌, sym, ap, ◌∙◌, [], ◌∷◌, ℕ, ◌*◌, ◌/◌, ◌≤◌, ◌^◌, length, arith}
-use native.Mathlib.Nat.{lt_of_lt_of_le}
+use Rattle.std.proofs.Common.{◌≡◌, sym, ap, ◌∙◌, [], ◌∷◌, ℕ, ◌*◌, ◌/◌, ◌≤◌, ◌^◌, length, arith, lt_of_lt_of_le}
 use Rattle.ranges.specs.Ranges.{span}
 use Rattle.digits.proofs.Sizes.{patterns_most}
 use Rattle.ranges.proofs.Lists.{through_nil}

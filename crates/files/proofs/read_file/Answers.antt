@@ -1,6 +1,5 @@
 -- `files::read_file` meets its contract: each return is a case of `read_answer`. Assumes nothing.
-use Rattle.std.proofs.Common.{◌≤◌, ◌/◌, refl, sym, ◌∙◌, length, arith}
-use lib.Seq.{length-take-le}
+use Rattle.std.proofs.Common.{◌≤◌, ◌/◌, refl, sym, ◌∙◌, length, arith, length-take-le}
 use Rattle.card.proofs.Cards.{sets_laid}
 use Rattle.files.specs.Files.{count, start_of, read_answer}
 use Rattle.files.proofs.Frames.{length_note, length_records}

@@ -1,7 +1,6 @@
 -- `gates::decode` meets its contract: each return is a case of `decoded`, by the test that led there. Assumes nothing.
-use Rattle.std.proofs.Common.{◌+◌, ◌≤◌, length, Ok, sym, ap, ◌∙◌}
+use Rattle.std.proofs.Common.{◌+◌, ◌≤◌, length, Ok, sym, ap, ◌∙◌, leb-true}
 use Rattle.std.proofs.lemmas.Result.{err_from_is_err_and}
-use borrow.Author.Tests.{leb-true}
 use Rattle.gates.proofs.Records.{decoded_lines, decoded_not, record_short}
 use Rattle.gates.proofs.Bytes.{word_decoded, word_low}
 use Rattle.gates.proofs.decode.Goals as goal
@@ -18,9 +17,6 @@ returns-in_err-check_lines c =
 
 pub returns-then-not-ends_by : goal.returns-then-not-ends_by
 returns-then-not-ends_by c = sym (decoded_not _ _ _ c.in_ok-check_lines.ensures (record_short _ _ _ (sym c.ends_by.ensures ∙ c.if-not-ends_by.true)))
-
-pub is_gate-requires : goal.is_gate-requires
-is_gate-requires c = c.in_ok-check_lines.ensures
 
 pub returns-then-not-is_gate : goal.returns-then-not-is_gate
 returns-then-not-is_gate c =

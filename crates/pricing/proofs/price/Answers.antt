@@ -1,6 +1,5 @@
 -- `pricing::price` meets its contract: each return is a case of `price_answer`. Assumes nothing.
-use Rattle.std.proofs.Common.{sym, ap, ◌∙◌, not, arith}
-use borrow.Author.Tests.{lt-ltb, le-ltb}
+use Rattle.std.proofs.Common.{sym, ap, ◌∙◌, not, arith, lt-ltb, le-ltb}
 use Rattle.card.proofs.Cards.{no_lines, good_lines, refusing_yes, refusing_no}
 use Rattle.card.proofs.Exits.{exit}
 use Rattle.boards.specs.Boards.{on_board}
@@ -22,9 +21,6 @@ pub returns-then-not-set_ok : goal.returns-then-not-set_ok
 unfolding price_answer on_board
 returns-then-not-set_ok c =
     sym (good_lines _ _ c.in_ok-check_lines.ensures ∙ refusing_no _ _ _ _ (le-ltb _ _ c.if-value-gt2.false) ∙ refusing_yes _ _ _ _ (rw (← c.set_ok.ensures) (ap not c.if-not-set_ok.true)))
-
-pub price_on-requires : goal.price_on-requires
-price_on-requires c = c.in_ok-check_lines.ensures
 
 pub returns : goal.returns
 unfolding price_answer

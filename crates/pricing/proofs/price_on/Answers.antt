@@ -1,6 +1,5 @@
 -- `pricing::price_on` meets its contract: the cost so far and the price of what is left is the price of all. Assumes nothing.
-use Rattle.std.proofs.Common.{rules, ◌≡◌, sym, ap, ◌∙◌, true, List, [], ◌∷◌, ℕ, ◌+◌, ◌*◌, ◌/◌, ◌%◌, ◌≤◌, ◌<◌, get_or, Ok, arith}
-use native.Mathlib.Nat.{sub-zero, zero-add}
+use Rattle.std.proofs.Common.{◌≡◌, sym, ap, ◌∙◌, true, List, [], ◌∷◌, ℕ, ◌+◌, ◌*◌, ◌/◌, ◌%◌, ◌≤◌, ◌<◌, get_or, Ok, arith}
 use Rattle.card.specs.Card.{lines_ok, Answer.accepted}
 use Rattle.card.proofs.Cards.{lines_are}
 use Rattle.card.proofs.Exits.{exit}
@@ -9,7 +8,7 @@ use Rattle.gates.specs.declared.Gate.{Gate}
 use Rattle.gates.specs.Inner.Decoding.{decoded}
 use Rattle.gates.proofs.Records.{Gives, gives, gives_gate, gives_no}
 use Rattle.cascades.specs.Cascades.{gates_of}
-use Rattle.cascades.proofs.Answers.{passing_start, passing_next, length_is, on_records_length, on_records_bad, on_records_good}
+use Rattle.cascades.proofs.Answers.{passing_next, length_is, on_records_length, on_records_bad, on_records_good}
 use Rattle.pricing.specs.Prices.{gate_price}
 use Rattle.pricing.proofs.Costs.{price_le, price_more, price_ends}
 use Rattle.pricing.proofs.Points.{points_lt, price_looked_up}
@@ -36,15 +35,6 @@ module _ {n v s : ℕ} {b points prices extras : List ℕ} {cost i : ℕ} {g : G
 pub returns-in_err-check_length : goal.returns-in_err-check_length
 returns-in_err-check_length c =
     exit _ _ _ c.in_err-check_length.ensures.1 _ c.from_residual.ensures.1 ∙ sym (on_records_length _ _ _ _ c.in_err-check_length.ensures.0)
-
-pub loop-i-init : goal.loop-i-init
-loop-i-init c =
-    record {
-      rates = record { halves = c.half_points-points.ensures; priced = c.point_prices-prices.ensures; paid = c.operator_extras-extras.ensures };
-      passing = passing_start _ _ _ _;
-      small = search rules;
-      value = rw (zero-add, sub-zero);
-    }
 
 pub returns-in_default : goal.returns-in_default
 returns-in_default c =

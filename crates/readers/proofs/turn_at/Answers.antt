@@ -1,9 +1,5 @@
 -- `readers::turn_at` meets its contract: each return is a case of `turn_at`. Assumes nothing.
-use mathlib.Core.Path.{◌≡◌, sym, ◌∙◌}
-use mathlib.Core.Bool.{true}
-use Prim.Native.Nat.{◌+◌, ◌≤◌}
-use lib.ListN.{length}
-use native.Mathlib.Omega.{arith}
+use Rattle.std.proofs.Common.{◌≡◌, sym, ◌∙◌, true, ◌+◌, ◌≤◌, length, arith}
 use Rattle.card.specs.Card.{lines_ok}
 use Rattle.readers.specs.Readers.{record_stands}
 use Rattle.readers.proofs.Handed.{record_fits, turn_lines, turn_end, turn_not, turn_gate}

@@ -1,5 +1,7 @@
 -- What the lent buffer holds on the way: cited by the contracts of inner functions alone.
 use Rattle.std.specs.Prelude.{◌≡◌, Bool, true, false, cond, List, [], ◌∷◌, ℕ, zero, suc, ◌+◌, ◌*◌, ◌^◌, ◌<◌, ◌≤◌, eqb, length, get_or}
+use Rattle.std.proofs.Props.{props}
+use mathlib.Core.HLevel.{×_prop, Unit-prop}
 use Rattle.ranges.specs.Ranges.{span}
 use Rattle.ranges.specs.Lists.{Each}
 use Rattle.gates.specs.declared.Gate.{Gate}
@@ -42,6 +44,11 @@ pub record BufferHolds (b : List ℕ) (gs : List Gate) : Type 0 where
   pub room : 8 * length gs ≤ length b
   pub gates : Each GateOrGap gs
   pub bytes : (q k : ℕ) → q < length gs → k < 8 → get_or b (8 * q + k) 0 ≡ get_or (record_of (gate gs q)) k 0
+
+-- each in at most one way, as a ghost field asks
+pub each_once : (gs : List Gate) → IsProp (Each GateOrGap gs)
+each_once [] = Unit-prop
+each_once (g ∷ gs) = ×_prop (hlevel props) (each_once gs)
 
 -- t is s with record p at place q too
 pub record RecordMoved (s t : List ℕ) (p q : ℕ) : Type 0 where

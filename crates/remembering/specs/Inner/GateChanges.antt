@@ -5,38 +5,38 @@ use Rattle.gates.specs.declared.Gate.{Gate}
 use Rattle.remembering.specs.declared.changes.Change.{Change}
 use Rattle.remembering.specs.declared.memory.Memory.{Memory}
 use Rattle.remembering.specs.declared.views.Sets.{Sets}
-use Rattle.remembering.specs.Inner.Buffers.{gates_in, GateOrGap, BufferHolds}
+use Rattle.remembering.specs.declared.buffer.Buffer.{Buffer}
+use Rattle.remembering.specs.Inner.Buffers.{GateOrGap}
+use Rattle.remembering.specs.Inner.LentBuffers.{held}
 use Rattle.remembering.specs.Inner.Rows.{settled_mark, RowKnown, ReachBounds}
 use Rattle.remembering.specs.Inner.Memories.{RoomFor}
 use Rattle.remembering.specs.Inner.Views.{SeenAs, StretchesMarked}
 
 -- the change of the gate at a place
-abbrev pub change_of : ℕ → ℕ → Gate → ℕ → Sets → Change
-change_of count place gate from seen = record { count = count; place = place; gate = gate; seen = seen; from = from }
+abbrev pub change_of : ℕ → Gate → ℕ → Sets → Change
+change_of place gate from seen = record { place = place; gate = gate; seen = seen; from = from }
 
 -- a change can be made in the buffer
-pub record ChangeFits (b : List ℕ) (change : Change) : Type 0 where
-  pub few : change.count ≤ 8000
-  pub inside : change.place < change.count
+pub record ChangeFits (buffer : Buffer) (change : Change) : Type 0 where
+  pub inside : change.place < buffer.count
   pub early : change.from ≤ change.place
   pub either : GateOrGap change.gate
   pub seen : SeenAs change.gate change.seen
-  pub holds : BufferHolds b (gates_in b change.count)
 
 -- the rows from x on, up to the one that changes, have their numbers from before the change
 pub record RowsAhead (gs : List Gate) (far : List ℕ) (change : Change) (x : ℕ) : Type 0 where
   pub begun : x ≤ change.place
-  pub room : change.count + 16 ≤ length far
+  pub room : change.place + 16 ≤ length far
   pub rows : (r : ℕ) → x ≤ r → r < change.place → RowKnown gs r (get_or far r 0)
   pub settled : (r : ℕ) → x ≤ r → r < change.from → settled_mark ≤ get_or far r 0
 
 -- the stretches from row x on can be looked at
-pub record LookFits {R S : ℕ} (b : List ℕ) (memory : Memory R S) (change : Change) (x : ℕ) : Type 0 where
-  pub fit : ChangeFits b change
-  pub room : RoomFor R S change.count
-  pub ahead : RowsAhead (gates_in b change.count) memory.far change x
+pub record LookFits {R S : ℕ} (buffer : Buffer) (memory : Memory R S) (change : Change) (x : ℕ) : Type 0 where
+  pub fit : ChangeFits buffer change
+  pub room : RoomFor R S buffer.count
+  pub ahead : RowsAhead (held buffer) memory.far change x
   pub bounds : ReachBounds memory.far memory.reach
-  pub marked : StretchesMarked (gates_in b change.count) memory.marks
+  pub marked : StretchesMarked (held buffer) memory.marks
 
 -- t is s after those of the rows from x to e that stand before the change have looked at it again; from x on, no row before low has a pair
 pub record LookedAgain (gs : List Gate) (change : Change) (s t : List ℕ) (x e low : ℕ) : Type 0 where

@@ -7,7 +7,7 @@ use Rattle.gates.specs.Gates.{control, IsGate}
 use Rattle.rules.specs.Places.{is_c}
 use Rattle.rules.specs.Tidying.{gate}
 use Rattle.remembering.specs.declared.views.Sets.{Sets}
-use Rattle.remembering.specs.Inner.Buffers.{gates_in, is_gap, BufferHolds}
+use Rattle.remembering.specs.Inner.Buffers.{is_gap}
 use Rattle.remembering.specs.Inner.Rows.{Quiet}
 
 -- ---- the types of operators
@@ -95,9 +95,3 @@ mark marks s = get_or marks s (record { types = 0; kinds = 0 })
 pub record StretchesMarked (gs : List Gate) (marks : List Sets) : Type 0 where
   pub room : length gs ≤ 16 * length marks
   pub each : (s : ℕ) → 16 * s + 16 ≤ length gs → StretchPassed gs (16 * s) (16 * s + 16) (mark marks s)
-
--- the buffer holds m gates and gaps, and what is known of their stretches is true
-pub record BufferMarked (b : List ℕ) (marks : List Sets) (m : ℕ) : Type 0 where
-  pub few : m ≤ 8000
-  pub holds : BufferHolds b (gates_in b m)
-  pub marked : StretchesMarked (gates_in b m) marks

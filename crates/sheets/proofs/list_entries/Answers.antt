@@ -1,5 +1,5 @@
 -- `sheets::list_entries` meets its contract: the table holds the file's entries, and the cascade's room is enough for six lines. Assumes nothing.
-use native.Mathlib.Omega.{arith}
+use Rattle.std.proofs.Common.{arith}
 use Rattle.card.proofs.Cards.{lines_are}
 use Rattle.synthesis.proofs.Synthesis.{bound_most}
 use Rattle.sheets.proofs.list_entries.Goals as goal

@@ -1,7 +1,5 @@
 -- `sheets::list_file` meets its contract: the entries of six lines or fewer fit an array of 729. Assumes nothing.
-use mathlib.Core.Path.{refl, sym, ◌∙◌}
-use Prim.Native.Nat.{◌≤◌}
-use lib.Seq.{length-take-le}
+use Rattle.std.proofs.Common.{refl, sym, ◌∙◌, ◌≤◌, length-take-le}
 use Rattle.digits.proofs.Sizes.{patterns_most}
 use Rattle.card.proofs.Cards.{lines_are}
 use Rattle.sheets.proofs.list_file.Goals as goal

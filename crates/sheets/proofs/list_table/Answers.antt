@@ -1,10 +1,5 @@
 -- `sheets::list_table` meets its contract: what synthesis refuses the file is refused, and what it makes is listed. Assumes nothing.
-use mathlib.Core.Path.{◌≡◌, sym, ap, ◌∙◌}
-use mathlib.Core.List.{List}
-use Prim.Native.Nat.{ℕ, ◌*◌, ◌^◌, ◌≤◌}
-use lib.ListN.{length, take}
-use lib.Seq.{length-take-le, take_at}
-use native.Mathlib.Omega.{arith}
+use Rattle.std.proofs.Common.{◌≡◌, sym, ap, ◌∙◌, List, ℕ, ◌*◌, ◌^◌, ◌≤◌, length, take, length-take-le, take_at, arith}
 use Rattle.card.specs.Card.{laid}
 use Rattle.card.proofs.Cards.{lines_are}
 use Rattle.tables.specs.Permutations.{Permutation}

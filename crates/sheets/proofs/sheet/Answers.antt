@@ -1,7 +1,5 @@
 -- `sheets::sheet` meets its contract: 1 by the first byte, 2 by the length, and else the entries' sheet. Assumes nothing.
-use mathlib.Core.Path.{◌≡◌, sym, ◌∙◌}
-use mathlib.Core.Bool.{true}
-use native.Mathlib.Omega.{arith}
+use Rattle.std.proofs.Common.{◌≡◌, sym, ◌∙◌, true, arith}
 use Rattle.card.specs.Card.{lines_ok}
 use Rattle.card.proofs.Cards.{lines_are}
 use Rattle.sheets.proofs.SheetAnswers.{file_lines, file_broken}
@@ -24,8 +22,3 @@ list_refusal-requires-then-file-size c =
     let n = c.lines_of-lines.ensures in
     let p = rw n at c.power-size.ensures in
     file_broken _ (rw n at (six (goal.at.list_refusal-requires-then-file-size c).Else-not-lines_ok)) (λ e. omega (arith, p, c.if-file-size.true, e))
-
-pub list_file-requires : goal.list_file-requires
-list_file-requires c =
-    let p = c.power-size.ensures in
-    (record { lines = six (goal.at.list_file-requires c).Else-not-lines_ok; first = c.lines_of-lines.ensures; size = rw p at c.if-file-size.false }, p)

@@ -1,16 +1,15 @@
 -- `tables::check_inverting` meets its contract: past refusal 1 the answer is that of the entries. Assumes nothing.
 use Rattle.std.proofs.Common.{sym, ◌∙◌, arith}
-use Rattle.std.proofs.lemmas.Result.{err_from_is_err_and}
 use Rattle.digits.proofs.Sizes.{patterns_most}
 use Rattle.card.proofs.Cards.{lines_are, no_lines, good_lines}
+use Rattle.card.proofs.Exits.{exit}
 use Rattle.tables.specs.Tables.{check_table_answer}
 use Rattle.tables.proofs.check_inverting.Goals as goal
 
 pub returns-in_err-check_lines-clause-answer : goal.returns-in_err-check_lines-clause-answer
 unfolding check_table_answer
 returns-in_err-check_lines-clause-answer c =
-    let p = err_from_is_err_and c.from_residual.result c.from_residual.ensures.1 in
-    rw (p.1, p.2, c.in_err-check_lines.ensures.1) (sym (no_lines _ _ c.in_err-check_lines.ensures.0))
+    exit _ _ _ c.in_err-check_lines.ensures.1 _ c.from_residual.ensures.1 ∙ sym (no_lines _ _ c.in_err-check_lines.ensures.0)
 
 pub power-requires : goal.power-requires
 power-requires c = (lines_are _ c.in_ok-check_lines.ensures).1

@@ -8,8 +8,10 @@ use Rattle.rules.specs.declared.fitting.Rule.{Rule}
 use Rattle.rules.specs.declared.fitting.Left.{Left}
 use Rattle.rules.specs.Rules.{fits, loosened, retuned}
 use Rattle.rules.specs.Tidying.{gate, tidied}
-use Rattle.remembering.specs.Inner.Buffers.{gap, is_gap, gates_in, BufferHolds}
+use Rattle.remembering.specs.Inner.Buffers.{gap, is_gap, ungapped, BufferHolds}
+use Rattle.remembering.specs.Inner.LentBuffers.{held}
 use Rattle.remembering.specs.Inner.Rows.{Clear}
+use Rattle.remembering.specs.declared.buffer.Buffer.{Buffer}
 use Rattle.remembering.specs.declared.memory.Memory.{Memory}
 use Rattle.remembering.specs.Inner.Memories.{MemoryTrue}
 use Rattle.tidying.specs.declared.pairs.Pair.{Pair}
@@ -21,10 +23,9 @@ pub record GateRecords (b : List ℕ) (m : ℕ) : Type 0 where
   pub holds : BufferHolds b (gates_of b)
   pub gates : Each (IsGate 6) (gates_of b)
 
--- the buffer holds m gates and gaps, what is remembered of them is true, and no row before x has a pair
-pub record Remembers {R S : ℕ} (b : List ℕ) (memory : Memory R S) (m x : ℕ) : Type 0 where
-  pub holds : BufferHolds b (gates_in b m)
-  pub is_true : MemoryTrue (gates_in b m) memory m x
+-- what is remembered of the gates and gaps in the buffer is true, and no row before x has a pair
+abbrev pub Remembers : {R S : ℕ} → Buffer → Memory R S → ℕ → Type 0
+Remembers buffer memory x = MemoryTrue (held buffer) memory buffer.count x
 
 -- a pair of gates that fits, the first being clear up to the second
 pub record PairAt (gs : List Gate) (pair : Pair) : Type 0 where
@@ -40,6 +41,10 @@ left_by (Some Rule.Cancel) g h = record { first = gap; second = gap }
 left_by (Some Rule.Merge) g h = record { first = gap; second = inverse h }
 left_by (Some Rule.Reduce) g h = record { first = loosened g h; second = retuned g h }
 left_by None g h = record { first = g; second = h }
+
+-- the gates in the buffer are what tidying the records of s leaves, after so many steps
+abbrev pub TidyHeld : List ℕ → Buffer → ℕ → Type 0
+TidyHeld s buffer steps = record { left = ungapped (held buffer); steps = steps } ≡ tidied (gates_of s)
 
 -- t is what tidying the records of s leaves, with so many gates left and after so many steps
 pub record TidiedIn (s t : List ℕ) (left steps : ℕ) : Type 0 where

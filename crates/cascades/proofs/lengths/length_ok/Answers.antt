@@ -1,5 +1,5 @@
 -- `cascades::lengths::length_ok` meets its contract: the body is the definition. Assumes nothing.
-use borrow.Author.Tests.{eq-eqb, ne_eqb}
+use Rattle.std.proofs.Common.{eq-eqb, ne_eqb}
 use Rattle.cascades.specs.Answers.{length_ok}
 use Rattle.cascades.proofs.lengths.length_ok.Goals as goal
 

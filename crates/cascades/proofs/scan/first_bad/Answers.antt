@@ -3,11 +3,8 @@ use Rattle.std.proofs.Common.{sym, ◌∙◌, arith}
 use Rattle.ranges.proofs.Places.{found_here, found_nowhere}
 use Rattle.gates.proofs.Bytes.{word_is}
 use Rattle.cascades.specs.Answers.{first_bad}
-use Rattle.cascades.proofs.Answers.{passing_start, passing_next, passing_bad, passing_all}
+use Rattle.cascades.proofs.Answers.{passing_next, passing_bad, passing_all}
 use Rattle.cascades.proofs.scan.first_bad.Goals as goal
-
-pub loop-i-init : goal.loop-i-init
-loop-i-init c = passing_start _ _ _ _
 
 pub returns-then-not-is_gate : goal.returns-then-not-is_gate
 unfolding first_bad

@@ -1,5 +1,5 @@
 -- `cascades::undo::copy_inverse` meets its contract: the word with the other operator is the record of the inverse. Assumes nothing.
-use mathlib.Core.Path.{◌∙◌}
+use Rattle.std.proofs.Common.{◌∙◌}
 use Rattle.gates.proofs.Bytes.{operator_is}
 use Rattle.cascades.proofs.Stored.{word_inverse}
 use Rattle.cascades.proofs.undo.copy_inverse.Goals as goal

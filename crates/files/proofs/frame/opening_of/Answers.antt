@@ -1,9 +1,5 @@
 -- `files::frame::opening_of` meets its contract: the frame decides, and then the records that it points back to. Assumes nothing.
-use mathlib.Core.Path.{◌≡◌, refl, sym, ◌∙◌}
-use mathlib.Core.Bool.{true}
-use Prim.Native.Nat.{◌≤◌}
-use lib.ListN.{length}
-use native.Mathlib.Omega.{arith}
+use Rattle.std.proofs.Common.{◌≡◌, refl, sym, ◌∙◌, true, ◌≤◌, length, arith}
 use Rattle.files.specs.Files.{tail_at, trailer_at, distance, lines_in, start_of, frame_ok, opening_of}
 use Rattle.files.proofs.Frames.{Right, right}
 use Rattle.files.proofs.Openings.{on_file_not, opening_is}

@@ -1,9 +1,7 @@
 -- `serials::closing::close` meets its contract: each return is a case of the end. Assumes nothing.
-use mathlib.Core.Path.{sym, ◌∙◌}
-use lib.Seq.{length-take-le}
+use Rattle.std.proofs.Common.{◌∙◌}
 use Rattle.serials.specs.Serials.{serial}
 use Rattle.serials.proofs.Closings.{end_over, end_early, end_many, end_numbers}
-use Rattle.std.proofs.Common.{rules}
 use Rattle.serials.proofs.closing.close.Goals as goal
 
 pub returns-then-s-ne0 : goal.returns-then-s-ne0
@@ -29,12 +27,6 @@ returns-then-entries-m c =
       value = c.stop-then-entries-m.ensures ∙ ends.0;
       table_after = ends.1;
     }
-
-pub slice_bounds-settle-end : goal.slice_bounds-settle-end
-slice_bounds-settle-end c = sym (length-take-le _ _ c.if-entries-m.false)
-
-pub settle-requires : goal.settle-requires
-settle-requires c = (length-take-le _ _ c.if-entries-m.false, search rules)
 
 pub returns : goal.returns
 returns c =

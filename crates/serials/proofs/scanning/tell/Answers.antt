@@ -1,5 +1,5 @@
 -- `serials::scanning::tell` meets its contract. Assumes nothing.
-use borrow.Author.Tests.{eq-eqb, ne_eqb}
+use Rattle.std.proofs.Common.{eq-eqb, ne_eqb}
 use Rattle.serials.specs.Serials.{told_of}
 use Rattle.serials.proofs.scanning.tell.Goals as goal
 

@@ -1,17 +1,17 @@
 use Rattle.std.proofs.Common.{◌-◌}
-use Rattle.remembering.specs.Inner.Buffers.{gates_in}
+use Rattle.remembering.specs.Inner.LentBuffers.{held}
 use Rattle.remembering.specs.Inner.Rows.{Clear}
 use Rattle.remembering.specs.Inner.Memories.{MemoryTrue}
 use Rattle.tidying.proofs.pairs.find_pair.Given as goal
 
 abbrev pub invariant-rows : goal.invariant-rows
-invariant-rows g l = MemoryTrue (gates_in l.b l.m) l.memory l.m l.from
+invariant-rows g l = MemoryTrue (held l.buffer) l.memory l.buffer.count l.from
 
 abbrev pub decreases-rows : goal.decreases-rows
-decreases-rows g l = l.m - l.from
+decreases-rows g l = l.buffer.count - l.from
 
 abbrev pub invariant-loop-j : goal.invariant-loop-j
-invariant-loop-j g l = MemoryTrue (gates_in l.b l.m) l.memory l.m l.i × Clear (gates_in l.b l.m) l.i l.j
+invariant-loop-j g l = MemoryTrue (held l.buffer) l.memory l.buffer.count l.i × Clear (held l.buffer) l.i l.j
 
 abbrev pub decreases-loop-j : goal.decreases-loop-j
-decreases-loop-j g l = l.m - l.j
+decreases-loop-j g l = l.buffer.count - l.j

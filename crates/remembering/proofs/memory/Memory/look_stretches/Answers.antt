@@ -9,7 +9,7 @@ use Rattle.remembering.proofs.memory.Memory.look_stretches.Goals as goal
 pub returns-then-furthest-change : goal.returns-then-furthest-change
 returns-then-furthest-change g c =
     record {
-      again = again_none _ _ _ _ _ (gates_inside _ _ _ c.requires.fit.inside) (omega (arith, c.requires.fit.few, c.requires.fit.inside))
+      again = again_none _ _ _ _ _ (gates_inside _ _ _ c.requires.fit.inside) (omega (arith, c.args.buffer.now.few, c.requires.fit.inside))
           (λ r a b l. reach_many _ _ _ _ _ _ r c.requires.bounds refl (search rules) c.furthest.ensures.bound c.if-furthest-change.true a b) c.requires.ahead;
       bounds = c.requires.bounds;
       marked = c.requires.marked;

@@ -1,7 +1,8 @@
 -- `remembering::memory::Memory::settle_rows` meets its contract: the rows before the change are looked at again, its own starts anew, and its stretch is
 -- forgotten. Assumes nothing.
 use Rattle.std.proofs.Common.{ℕ, ◌+◌, ◌%◌, ◌<◌, ◌≤◌, Bool, true, false, cond, length, refl, ◌∙◌, arith, length-set}
-use Rattle.remembering.specs.Inner.Buffers.{gates_in, is_gap}
+use Rattle.remembering.specs.Inner.Buffers.{is_gap}
+use Rattle.remembering.specs.Inner.LentBuffers.{held}
 use Rattle.remembering.specs.Inner.Rows.{settled_mark}
 use Rattle.remembering.proofs.Buffers.{gates_inside}
 use Rattle.remembering.proofs.Looks.{again_end}
@@ -17,13 +18,13 @@ pub returns : goal.returns
 returns g c =
     let p = c.args.change.place in
     let w = c.loop-x.invariant in
-    let few : p < 8000 = omega (arith, c.requires.0.few, c.requires.0.inside) in
-    let inside = gates_inside c.args.b.now c.args.change.count p c.requires.0.inside in
+    let few : p < 8000 = omega (arith, c.args.buffer.now.few, c.requires.0.inside) in
+    let inside = gates_inside c.args.buffer.now.bytes.now c.args.buffer.now.count p c.requires.0.inside in
     let early : c.loop-x.low ≤ p = omega (arith, w.again.early, c.requires.0.early) in
     let room : p < length c.loop-x.self.far = omega (arith, w.again.len, c.requires.1.known.room, inside) in (
       w.again.early,
       record {
-        count = length-set (gates_in c.args.b.now c.args.change.count) p c.args.change.gate ∙ c.requires.1.count;
+        count = length-set (held c.args.buffer.now) p c.args.change.gate ∙ c.requires.1.count;
         room = c.requires.1.room;
         within = omega (arith, early, c.requires.0.inside);
         known = again_end _ _ _ _ _ _ _ c.requires.1.known inside few (omega arith) w.again c.own_row.ensures;

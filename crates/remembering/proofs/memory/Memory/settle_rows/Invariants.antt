@@ -1,8 +1,8 @@
 use Rattle.std.proofs.Common.{◌*◌}
-use Rattle.remembering.specs.Inner.Buffers.{gates_in}
+use Rattle.remembering.specs.Inner.LentBuffers.{held}
 use Rattle.remembering.specs.Inner.GateChanges.{Looked}
 use Rattle.remembering.proofs.memory.Memory.settle_rows.Given as goal
 
 abbrev pub invariant-loop-x : goal.invariant-loop-x
 invariant-loop-x g l =
-    Looked (gates_in l.b l.change.count) l.change l.initial.self l.self 0 (256 * l.x) l.low
+    Looked (held l.buffer) l.change l.initial.self l.self 0 (256 * l.x) l.low
