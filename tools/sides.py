@@ -49,12 +49,23 @@ def heads(commit):
     return found
 
 
+def matched(commit, mark, files, pattern):
+    """Each text that the pattern finds in the files, by the path's parts and its name with a mark between them."""
+    return {
+        mark.join(path.groups() + (m["name"],)): joined(m["text"])
+        for path, text in sources(commit, files)
+        for m in re.finditer(pattern, text)
+    }
+
+
 def types(commit):
-    found = {}
-    for path, text in sources(commit, r"crates/([^/]+)/src/.*\.rt"):
-        for m in re.finditer(r"(?ms)^(?:pub )?(?:struct|enum|type|trait) (\w+).*?(?:;\n|^\}|\}\n)", text):
-            found[f"{path[1]}::{m[1]}"] = joined(m[0])
-    return found
+    kinds = r"(?ms)^(?P<text>(?:pub )?(?:struct|enum|type|trait) (?P<name>\w+).*?(?:;\n|^\}|\}\n))"
+    return matched(commit, "::", r"crates/([^/]+)/src/.*\.rt", kinds)
+
+
+def theorems(commit):
+    promises = r"(?m)^ *pub (?P<name>[^\s(){}:]+) : (?P<text>.*(?:\n {4,}(?!unfolding).*)*)"
+    return matched(commit, ".", r"crates/(demands|cases)/proofs/([A-Z]\w*)\.antt", promises)
 
 
 def definitions(commit):
@@ -72,14 +83,6 @@ def definitions(commit):
             elif key and line.strip():
                 found[key] += "\n" + line
     return {key: joined(text) for key, text in found.items()}
-
-
-def theorems(commit):
-    found = {}
-    for path, text in sources(commit, r"crates/(demands|cases)/proofs/([A-Z]\w*)\.antt"):
-        for m in re.finditer(r"(?m)^ *pub ([^\s(){}:]+) : (.*(?:\n {4,}(?!unfolding).*)*)", text):
-            found[f"{path[1]}.{path[2]}.{m[1]}"] = joined(m[2])
-    return found
 
 
 def row(*cells):
