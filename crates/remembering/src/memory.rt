@@ -46,12 +46,17 @@ impl<const R: usize, const S: usize> Memory<R, S> {
         }
     }
 
-    // The first row from i on that may have a pair.
+    // The first row from i on that may have a pair: row i itself, or one behind settled rows, which are passed sixteen at a time.
     pub fn next_row(&self, m: usize, i: usize) -> Option<usize>
         requires { (i ≤ m) × (m + 16 ≤ R) × NoPairBefore self.now.far i }
         ensures { MatchOption result (NoPairBefore self.now.far m) (λ r. NextRow self.now.far m i r) }
     {
-        for r in i..m {
+        let far = &self.far[..];
+        if i < m && far[i] < SETTLED {
+            return Some(i);
+        }
+        let run = super::rows::settled_run(&far[i..m]);
+        for r in i + run..m {
             if self.far[r] < SETTLED {
                 return Some(r);
             }
