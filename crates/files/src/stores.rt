@@ -3,12 +3,14 @@ ghost use Rattle.std.specs.Prelude.{◌≡◌, ◌+◌, ◌≤◌, length};
 ghost use Rattle.std.proofs.lemmas.List.Edits.{sets};
 ghost use Rattle.files.specs.Files.{trailer, file_of, file_size};
 
-// The bytes, from a place on.
+// The bytes, from a place on. One by one: of this the compiler makes the memcpy that C callers link already, of `copy_from_slice` a memmove.
 pub fn copy_bytes(bytes: &[u8], room: &mut [u8], at: usize)
     requires { at + length bytes.now ≤ length room.old }
     ensures { room.new ≡ sets room.old at bytes.now }
 {
-    room[at..at + bytes.len()].copy_from_slice(bytes);
+    for (k, b) in bytes.iter().enumerate() {
+        room[at + k] = *b;
+    }
 }
 
 // The last eight bytes of a file with m records.

@@ -1,10 +1,13 @@
--- `files::stores::copy_bytes` meets its contract: a part of the room is written over. Assumes nothing.
-use Rattle.std.proofs.Common.{◌≡◌, ◌+◌, ◌-◌, length, append_assoc, arith}
-use Rattle.std.proofs.lemmas.List.{drop-drop}
-use Rattle.std.proofs.lemmas.List.Edits.{sets-eq}
+-- `files::stores::copy_bytes` meets its contract: so many bytes are stored. Assumes nothing.
+use Rattle.std.proofs.Common.{refl}
+use Rattle.ranges.proofs.Stores.{storing_starts, storing_next, storing_ends}
 use Rattle.files.proofs.stores.copy_bytes.Goals as goal
 
+pub loop-k-init : goal.loop-k-init
+loop-k-init c = storing_starts _ _ _ c.requires
+
+pub loop-k-preserved : goal.loop-k-preserved
+loop-k-preserved c = storing_next _ _ _ _ _ c.loop-k.invariant _ 0 c.loop-k-test.true refl
+
 pub returns : goal.returns
-returns c =
-    let same : (c.args.at + length c.args.bytes.now) - c.args.at ≡ length c.args.bytes.now = omega arith in
-    rw (sets-eq _ _ _ c.requires, same, c.copy_from_slice.ensures.after, append_assoc, drop-drop)
+returns c = storing_ends _ _ _ _ _ c.loop-k.invariant c.loop-k-test.false
