@@ -1,5 +1,6 @@
 -- How far the rows of each stretch reach, measured again or raised where rows change; and the rows before which none has a pair. Assumes nothing.
-use Rattle.std.proofs.Common.{◌≡◌, ℕ, ◌+◌, ◌-◌, ◌*◌, ◌/◌, ◌%◌, ◌<◌, ◌≤◌, max, Bool, true, false, cond, nat_eq, List, [], ◌∷◌, All, count_by, length, get_or, set, take, drop, refl, sym, ap, subst, ◌∙◌, eq-eqb, rules, arith, length-drop, length-take-le, get_or-take, get_or-drop, get_or-set_same, get_or-set_other}
+use Rattle.std.proofs.Common.{◌≡◌, ℕ, zero, suc, ◌+◌, ◌-◌, ◌*◌, ◌/◌, ◌%◌, ◌<◌, ◌≤◌, max, Bool, true, false, cond, nat_eq, List, [], ◌∷◌, All, count_by, length, get_or, set, take, drop, refl, sym, ap, subst, ◌∙◌, eq-eqb, rules, arith, length-drop, length-take-le, get_or-take, get_or-drop, get_or-set_same, get_or-set_other}
+use Rattle.std.specs.Simd.{first_chunks}
 use Rattle.std.proofs.lemmas.List.Elements.{All-cons}
 use Rattle.std.proofs.lemmas.List.Sums.{sum_by-cons}
 use native.Mathlib.Decide.{ℕ_discrete}
@@ -18,6 +19,18 @@ sixteen_at P s x e r is inside all a b =
     let here : get_or (take (e - x) (drop x s)) (r - x) 0 ≡ get_or s r 0 =
     get_or-take (e - x) (drop x s) (r - x) 0 (omega arith) ∙ get_or-drop x s (r - x) 0 ∙ ap (λ (k : ℕ). get_or s k 0) at in
     subst P here (all (r - x) 0 long)
+
+-- the same where they are the sixteen of a place in a list that is cut into n sixteens
+pub sixteens_at : (P : ℕ → Type 0) (n : ℕ) (s : List ℕ) (q k : ℕ) → 16 * n ≤ length s → q < n → All P (get_or (first_chunks 16 n s) q []) → k < 16 → P (get_or s (16 * q + k) 0)
+sixteens_at P zero s q k room lt all small = absurd (omega arith)
+sixteens_at P (suc n) s zero k room lt all small =
+    let at : k ≡ 16 * 0 + k = omega arith in
+    let here : get_or (take 16 s) k 0 ≡ get_or s (16 * 0 + k) 0 = get_or-take 16 s k 0 small ∙ ap (λ (i : ℕ). get_or s i 0) at in
+    subst P here (all k 0 (rw (length-take-le 16 s (omega arith)) small))
+sixteens_at P (suc n) s (suc q) k room lt all small =
+    let at : 16 + (16 * q + k) ≡ 16 * suc q + k = omega arith in
+    let here : get_or (drop 16 s) (16 * q + k) 0 ≡ get_or s (16 * suc q + k) 0 = get_or-drop 16 s (16 * q + k) 0 ∙ ap (λ (i : ℕ). get_or s i 0) at in
+    subst P here (sixteens_at P n (drop 16 s) q k (omega (arith, length-drop 16 s)) (omega arith) all small)
 
 -- where none is counted, there is none
 uncounted : (b : Bool) (n : ℕ) → cond b 1 0 + n ≡ 0 → (b ≡ false) × (n ≡ 0)
@@ -105,3 +118,8 @@ reach_start m n far reach le most rows rest bounds =
 -- row y has the number n now
 pub no_pair_set : (s : List ℕ) (y n z : ℕ) → y < length s → (y < z → settled_mark ≤ n) → ((r : ℕ) → (r ≡ y → ⊥) → r < z → settled_mark ≤ get_or s r 0) → NoPairBefore (set s y n) z
 no_pair_set s y n z lt here others r = at_set (λ (r v : ℕ). r < z → settled_mark ≤ v) s y n 0 lt here r (others r)
+
+-- the next q rows have none either
+pub no_pair_more : (s : List ℕ) (x q : ℕ) → NoPairBefore s x → ((k : ℕ) → k < q → settled_mark ≤ get_or s (x + k) 0) → NoPairBefore s (x + q)
+no_pair_more s x q low more r l =
+    by_place (settled_mark ≤ get_or s r 0) x r (low r) (λ b. let e : x + (r - x) ≡ r = omega arith in rw e at (more (r - x) (omega arith)))

@@ -1,7 +1,7 @@
 // The numbers that are remembered of rows: how far a row is known to be clear, with SETTLED added where it is known to have no pair; that alone stands
 // where a gate has gone. Here many of them are looked at at once.
 ghost use Rattle.std.specs.Prelude.{◌≡◌, ◌==◌, ◌*◌, ◌/◌, ◌%◌, ◌≤◌, ◌<◌, All, count_by, get_or, length, max, set};
-ghost use Rattle.remembering.specs.Inner.Rows.{settled_mark};
+ghost use Rattle.remembering.specs.Inner.Rows.{settled_mark, NoPairBefore};
 
 // Bit 14, above every place: a row with it has no pair. In the number, since an enum beside it would take twice the memory, and memory is fixed.
 pub const SETTLED: u16 = 0x4000;
@@ -12,6 +12,27 @@ pub fn furthest(numbers: &[u16]) -> u16
     ensures small { result < settled_mark }
 {
     numbers.iter().map(|n| *n % SETTLED).max().unwrap_or(0)
+}
+
+// None of these is less than this.
+fn smallest(numbers: &[u16]) -> u16
+    ensures { All (λ n. result ≤ n) numbers.now }
+{
+    numbers.iter().copied().min().unwrap_or(u16::MAX)
+}
+
+// How many of these, from the first on, surely have no pair, sixteen at a time.
+pub fn settled_run(numbers: &[u16]) -> usize
+    ensures { (result ≤ length numbers.now) × NoPairBefore numbers.now result }
+{
+    let mut run = 0;
+    for sixteen in numbers.as_chunks::<16>().0 {
+        if smallest(sixteen) < SETTLED {
+            break;
+        }
+        run += 16;
+    }
+    run
 }
 
 // How many of these are clear up to p.
