@@ -69,8 +69,9 @@ impl<'a> Pairing<'a> {
 // A turn for each gate: `left` has a bit for each line on which the present entry a and i differ, the lower of its two
 // (0x555 has these for six lines), and on these a is as it came.
 pub fn find_row(i: u16, names: &PatternNames, table: &mut Pairing, words: &mut GateWords)
-    requires { RowToSettle names.now.lines i table.old words.old }
-    ensures { RowSettled names.now.lines i table.old words.old table.new words.new }
+    requires { RowToSettle names.now.lines i table.old words.old.start }
+    ensures same_words { words.new.words.ghost_name ≡ words.old.words.ghost_name }
+    ensures settled { RowSettled names.now.lines i table.old table.new words.new.start words.old.start words.old.words.now words.new.words.now }
 {
     let mut a = table.entry(i);
     let from = names.name(a);
