@@ -15,8 +15,8 @@ use crate::settling::{Pairing, find_row};
 
 // All rows: the words of the cascade of a table on n lines are laid.
 fn find_gates(n: usize, table: &mut Pairing, words: &mut GateWords)
-    requires { TableToSettle n table.old words.old.start }
-    ensures { WordsLaid (synthesized n table.old) words.new.start words.old.start words.old.words.now words.new.words.now }
+    requires { TableToSettle n table.old.table.now words.old.start }
+    ensures { WordsLaid (synthesized n table.old.table.now) words.new.start words.old.start words.old.words.now words.new.words.now }
 {
     let names = PatternNames::new(n);
     for i in 0..digits::power(n) {

@@ -24,4 +24,4 @@ loop-i-preserved c =
     record { at = rows_more _ _ _ _ g.at _ w.at; laid = rw (rows_found _ _ _ _ g.at) (laid_more _ _ _ _ _ _ _ _ g.laid w.laid) }
 
 pub returns : goal.returns
-returns c = let all : c.loop-i.i ≡ 3 ^ c.args.n = omega arith in rw (rows_all _ _ c.args.table.now all) at c.loop-i.invariant.laid
+returns c = let all : c.loop-i.i ≡ 3 ^ c.args.n = omega arith in rw (rows_all _ _ c.args.table.now.table.now all) at c.loop-i.invariant.laid

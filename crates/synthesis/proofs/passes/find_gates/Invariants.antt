@@ -8,4 +8,4 @@ pub record RowsSettled (n i : ℕ) (t₀ t : List ℕ) (e e' : ℕ) (ws₀ ws : 
   pub laid : WordsLaid (rows_from n i t₀).found e e' ws₀ ws
 
 abbrev pub invariant-loop-i : goal.invariant-loop-i
-invariant-loop-i l = RowsSettled l.n l.i l.initial.table l.table l.words.start l.initial.words.start l.initial.words.words.now l.words.words.now
+invariant-loop-i l = RowsSettled l.n l.i l.initial.table.table.now l.table.table.now l.words.start l.initial.words.start l.initial.words.words.now l.words.words.now

@@ -28,7 +28,7 @@ returns c =
     let words = c.new-words.result.words.now in
     let e = c.find_gates.new.words.start in
     let after = c.find_gates.new.words.words.now in
-    let same = c.new.ensures ∙ c.copy_from_slice.ensures.after in
+    let same = c.new.ensures.value.0 ∙ c.copy_from_slice.ensures.after in
     let all : c.new-words.result.start ≡ length words = c.new-words.ensures.none_laid.0 ∙ ap length (sym c.new-words.ensures.none_laid.1) in
     let w : WordsLaid (synthesized n c.args.given.now) e (length words) words after = rw (← same, ← all) c.find_gates.ensures in (
       ap length c.as_slice-laid.ensures ∙ omega (arith, laid_length _ e (length words) words after w, ap length (drop-length words)),

@@ -31,7 +31,7 @@ module _ (c : After-control_on) where
   d_lt = rw d_is (digit_lt 3 _ _ three_pos)
 
 pub loop-left-init : goal.loop-left-init
-loop-left-init c = (settling_start _ _ _ _ _ _ _ _ c.requires.present c.entry-a.ensures c.name-from.ensures c.name-to.ensures, refl)
+loop-left-init c = (settling_start _ _ _ _ _ _ _ _ c.requires.present c.entry-a.ensures c.name-from.ensures c.name-to.ensures, refl, refl, refl)
 
 pub with_digit-b-requires : goal.with_digit-b-requires
 with_digit-b-requires c = (
@@ -66,12 +66,16 @@ pub loop-left-preserved : goal.loop-left-preserved
 loop-left-preserved c =
     let w = (goal.at.loop-left-preserved c).After-control_on in
     let g = c.loop-left.invariant in
+    let e = c.exchange.ensures in
     let l = c.lay.ensures in (
-      settling_turn g.0 c.find_line-k.ensures c.requires.row _ _ _ _ _ _ _ (d_is w) c.with_digit-b.ensures c.exchange.ensures
-          (c.word_of.ensures ∙ ap record_of (c.gate_for.ensures (n w) c.loop-left.a c.requires.present.lines (on w) c.name.ensures)) l.place.0 l.place.1
-          l.laid refl,
-      l.same_reference ∙ g.1,
+      settling_turn g.0 c.find_line-k.ensures c.requires.row _ _ _ _ _ _ _ (d_is w) c.with_digit-b.ensures e.table_after
+          (c.word_of.ensures ∙ ap record_of (c.gate_for.ensures (n w) c.loop-left.a c.requires.present.lines (on w) c.name.ensures)) l.place.0 l.place.1 l.laid refl,
+      e.same_references.0 ∙ g.1,
+      e.same_references.1 ∙ g.2,
+      l.same_reference ∙ g.3,
     )
 
 pub returns : goal.returns
-returns c = let g = c.loop-left.invariant in record { same_words = g.1; settled = settling_end g.0 c.loop-left-test.false }
+returns c =
+    let g = c.loop-left.invariant in
+    record { same_table = (g.1, g.2); same_words = g.3; settled = settling_end g.0 c.loop-left-test.false }
