@@ -8,6 +8,9 @@ ghost use Rattle.fingerprints.specs.Inner.Fnv.{fnv_new, fnv_write, fnv_text};
 use std::fmt;
 use std::hash::{Hash, Hasher};
 
+// The digest of nothing.
+pub const EMPTY: u32 = 0x811c_9dc5;
+
 // The digest of all that was written so far.
 #[derive(Clone, Copy)]
 pub struct Fnv(pub u32);
@@ -15,9 +18,8 @@ pub struct Fnv(pub u32);
 impl Default for Fnv {
     ghost is_default = { λ digest. digest ≡ fnv_new };
 
-    // The digest of nothing.
     fn default() -> Fnv {
-        Fnv(0x811c_9dc5)
+        Fnv(EMPTY)
     }
 }
 

@@ -9,8 +9,15 @@ use texts::laying::Names;
 use texts::storing::Writer;
 use texts::{gate_texts, numbers};
 
-// The name of each operator from 0 on: two letters, or one and a space behind it. No gate has operator 0.
-const NAMES: Names = [*b"  ", *b"C1", *b"C2", *b"N ", *b"D ", *b"E "];
+// The name of each operator from 0 on, and how many letters it has. No gate has operator 0.
+const NAMES: Names = [
+    (*b"  ", 0),
+    (*b"C1", 2),
+    (*b"C2", 2),
+    (*b"N ", 1),
+    (*b"D ", 1),
+    (*b"E ", 1),
+];
 
 // The bytes of the whole listing; the head line's own words have 20.
 pub fn size_listing(lines: u8, cascade: &[u8], cost: u32) -> usize

@@ -13,8 +13,15 @@ use card::Refusal;
 use texts::gate_texts;
 use texts::laying::Names;
 
-// The name of each operator from 0 on. No gate has operator 0.
-const NAMES: Names = [*b"  ", *b"+1", *b"+2", *b"02", *b"12", *b"01"];
+// The name of each operator from 0 on, and how many letters it has. No gate has operator 0.
+const NAMES: Names = [
+    (*b"  ", 0),
+    (*b"+1", 2),
+    (*b"+2", 2),
+    (*b"02", 2),
+    (*b"12", 2),
+    (*b"01", 2),
+];
 
 // The gates of a text, into a room for records, and how many they are: refusals 1, 12, 6, 5.
 pub fn read_names(lines: u8, text: &[u8], room: &mut [u8]) -> Result<usize, Refusal>

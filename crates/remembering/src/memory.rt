@@ -1,5 +1,6 @@
 // What the search remembers of the gates and gaps in a buffer.
-ghost use Rattle.std.specs.Prelude.{◌≡◌, false, List, ℕ, ◌+◌, ◌*◌, ◌≤◌, ◌<◌, MatchOption};
+ghost use Rattle.std.specs.Prelude.{◌≡◌, false, List, ◌++◌, ℕ, ◌+◌, ◌*◌, ◌/◌, ◌≤◌, ◌<◌, drop, MatchOption};
+ghost use Rattle.ranges.specs.Ranges.{span};
 ghost use Rattle.gates.specs.declared.Gate.{Gate};
 ghost use Rattle.rules.specs.Tidying.{gate};
 ghost use Rattle.remembering.specs.Inner.Buffers.{is_gap};
@@ -36,7 +37,10 @@ impl<const R: usize, const S: usize> Memory<R, S> {
     // hand it out copies it.
     pub fn start(&mut self, m: usize)
         requires { (self.old ≡ blank R S) × RoomFor R S m }
-        ensures { MemoryFresh self.new m }
+        ensures fresh { MemoryFresh self.new m }
+        ensures numbers { (self.new.far ≡ span (λ r. r + 1) 0 m ++ drop m self.old.far)
+            × (self.new.reach ≡ span (λ s. 16 * s + 16) 0 ((m + 15) / 16) ++ drop ((m + 15) / 16) self.old.reach)
+            × (self.new.marks ≡ self.old.marks) }
     {
         for r in 0..m {
             self.far[r] = (r + 1) as u16;

@@ -25,7 +25,7 @@ impl Sets {
     }
 }
 
-const ALL: u64 = 0xffff_ffff_ffff_ffff;
+pub const ALL: u64 = 0xffff_ffff_ffff_ffff;
 
 // Of a stretch of which nothing is known: every gate meets it. A value, since an Option would take half as much memory again, and memory is fixed.
 pub const UNKNOWN: Sets = Sets {

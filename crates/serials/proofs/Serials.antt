@@ -1,7 +1,8 @@
 -- The equations of a reader's definitions, as its code meets them: one byte, case by case; a number kept; a part, one byte at a time; parts one after the
 -- other. Assumes nothing.
-use Rattle.std.proofs.Common.{◌≡◌, refl, ◌∙◌, true, false, List, [], ◌∷◌, ◌++◌, ℕ, ◌+◌, ◌≤◌, ◌<◌, add-one, arith, ltb, length, get_or, drop, set, drop_of_length-le, drop-cons, lt-ltb, le-ltb, eq-eqb, ne_eqb}
-use Rattle.ranges.proofs.Bools.{and_right}
+use Rattle.std.proofs.Common.{◌≡◌, refl, ◌∙◌, Bool, true, false, cond, List, [], ◌∷◌, ◌++◌, ℕ, ◌+◌, ◌≤◌, ◌<◌, add-one, arith, ltb, length, get_or, drop, set, drop_of_length-le, drop-cons, length-set, ltb-true, lt-ltb, le-ltb, eq-eqb, ne_eqb}
+use Rattle.std.proofs.Math.Seq.{set_out}
+use Rattle.ranges.proofs.Bools.{and_left, and_right}
 use Rattle.texts.specs.Texts.{joined}
 use Rattle.serials.specs.declared.Scan.{Scan}
 use Rattle.serials.specs.declared.Serial.{Serial}
@@ -12,6 +13,10 @@ use Rattle.serials.proofs.SerialTexts.{follows_digit}
 -- ---- one byte
 
 module _ (s : Scan) (b : ℕ) where
+  pub next_early : comes_next s b ≡ true → s.at < 65535
+  unfolding comes_next
+  next_early can = ltb-true s.at 65535 (and_left (ltb s.at 65535) _ can)
+
   pub next_digit : comes_next s b ≡ true → is_mark b ≡ false → is_digit b ≡ true
   unfolding comes_next
   next_digit can m = follows_digit s.last s.value b (and_right (ltb s.at 65535) _ can) m
@@ -49,6 +54,17 @@ module _ (s next : Scan) (es : List ℕ) where
   pub kept_one : s.count < next.count → kept s next es ≡ set es s.count s.value
   unfolding kept
   kept_one lt = rw (lt-ltb s.count next.count lt)
+
+  pub kept_out : s.count < next.count → length es ≤ s.count → kept s next es ≡ es
+  kept_out lt le = kept_one lt ∙ set_out es s.count s.value le
+
+  pub kept_length : length (kept s next es) ≡ length es
+  unfolding kept
+  kept_length = go (ltb s.count next.count)
+    where
+      go : (b : Bool) → length (cond b (set es s.count s.value) es) ≡ length es
+      go true = length-set es s.count s.value
+      go false = refl
 
 -- ---- a part, one byte at a time
 

@@ -1,30 +1,20 @@
 // The gates' words, each laid down right before the one laid last, since the last gate found is the first of the cascade.
-ghost use Rattle.std.specs.Prelude.{◌≡◌, ◌<◌, length, [], ◌∷◌};
+ghost use Rattle.std.specs.Prelude.{◌≡◌, ◌+◌, ◌≤◌, ◌<◌, length, drop, ◌∷◌};
 
-use std::marker::Model;
-
-// The words that were laid, from a place of a lent array to its end. Contracts see the list of these words.
+// The words that were laid, from a place of a lent slice to its end; the places before it are free. It has a fact beside its fields and no model: behind
+// a model, all that a lender knows of its words afterwards is how many they are.
 #[derive(Drop)]
 pub struct GateWords<'a> {
     start: usize,
     words: &'a mut [u64],
-}
-
-impl<'a> Model for GateWords<'a> {
-    ghost use Rattle.std.specs.Prelude.{◌≡◌, List, ℕ, ◌≤◌, length, drop};
-
-    ghost Value = { List ℕ };
-
-    ghost view = { λ a. drop a.start a.words.now };
-
-    ghost invariant = { λ a. (a.start ≤ 4010) × (length a.words.now ≡ 4010) };
+    ghost within: { start ≤ length words.now },
 }
 
 impl<'a> GateWords<'a> {
     // None yet.
     pub fn new(words: &'a mut [u64]) -> GateWords<'a>
-        requires { length words.old ≡ 4010 }
-        ensures { result ≡ [] }
+        ensures same_reference { result.words.ghost_name ≡ words.entry.ghost_name }
+        ensures none_laid { (result.start ≡ length words.old) × (result.words.now ≡ words.old) }
     {
         GateWords {
             start: words.len(),
@@ -34,15 +24,17 @@ impl<'a> GateWords<'a> {
 
     // One more word, before the others.
     pub fn lay(&mut self, word: u64)
-        requires { length self.old < 4010 }
-        ensures { self.new ≡ word ∷ self.old }
+        requires { 0 < self.old.start }
+        ensures same_reference { self.new.words.ghost_name ≡ self.old.words.ghost_name }
+        ensures place { (self.new.start + 1 ≡ self.old.start) × (length self.new.words.now ≡ length self.old.words.now) }
+        ensures laid { drop self.new.start self.new.words.now ≡ word ∷ drop self.old.start self.old.words.now }
     {
         self.start -= 1;
         self.words[self.start] = word;
     }
 
     pub fn as_slice(&self) -> &[u64]
-        ensures { result.now ≡ self.now }
+        ensures { result.now ≡ drop self.now.start self.now.words.now }
     {
         &self.words[self.start..]
     }

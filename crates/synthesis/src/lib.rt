@@ -5,7 +5,7 @@ ghost use Rattle.std.specs.Prelude.{◌≡◌, ◌≤◌, length};
 ghost use Rattle.card.specs.Answers.{number_as};
 ghost use Rattle.synthesis.specs.Synthesis.{bound, synthesize_answer, synthesize_room};
 
-mod laying;
+pub mod laying;
 pub mod making;
 mod passes;
 pub mod settling;

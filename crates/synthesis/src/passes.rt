@@ -1,6 +1,6 @@
 // The pass over all rows, which finds the gates' words, and the pass that writes them out.
 // The first works in arrays of its own, since it uses the table up, and the room may be written only where the cascade will stand.
-ghost use Rattle.std.specs.Prelude.{◌≡◌, ◌*◌, ◌≤◌, length, []};
+ghost use Rattle.std.specs.Prelude.{◌≡◌, ◌*◌, ◌≤◌, length};
 ghost use Rattle.std.specs.List.{flat_map};
 ghost use Rattle.std.proofs.lemmas.List.Edits.{sets};
 ghost use Rattle.card.specs.Card.{laid};
@@ -15,9 +15,8 @@ use crate::settling::{Pairing, find_row};
 
 // All rows: the words of the cascade of a table on n lines are laid.
 fn find_gates(n: usize, table: &mut Pairing, words: &mut GateWords)
-    requires fits { TableToSettle n table.old }
-    requires none_laid { words.old ≡ [] }
-    ensures { WordsLaid (synthesized n table.old) [] words.new }
+    requires { TableToSettle n table.old.table.now words.old.start }
+    ensures { WordsLaid (synthesized n table.old.table.now) words.new.start words.old.start words.old.words.now words.new.words.now }
 {
     let names = PatternNames::new(n);
     for i in 0..digits::power(n) {

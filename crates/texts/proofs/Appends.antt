@@ -97,7 +97,7 @@ unfolding carries begins control_on line_text decimal width first span every dig
 control_right_lem k c lt small = every_below (control_right k) 4 (every_below (λ k. every (control_right k) 0 4) 6 refl k lt) c small
 
 -- both bytes of a name, and behind its letters the target's word
-pub operator_put : (name : List ℕ) (t : ℕ) (line : List ℕ) → t ≤ 6 → length line ≡ 48
+pub operator_put : (name : List ℕ × ℕ) (t : ℕ) (line : List ℕ) → t ≤ 6 → length line ≡ 48
     → Appended line 0 (name_of name ++ line_text t) (sets (sets line 0 (both name)) (length (name_of name)) (bytes_in (line_word t))) (length (name_of name) + 3)
 operator_put name t line lt long =
     let named = append_run line 0 (both name) (name_of name) _ (name_begins name) (omega (arith, long)) in

@@ -1,7 +1,7 @@
 -- The lines of gates by their parts, as they are stored: one turn of the loops over controls and gates, and the pieces of a line. Assumes nothing.
-use Rattle.std.proofs.Common.{◌≡◌, refl, ap, ◌∙◌, List, [], ◌∷◌, ◌++◌, append_assoc, append-nil, ℕ, ◌+◌, ◌-◌, ◌/◌, ◌%◌, ◌<◌, zero-add, add-one}
+use Rattle.std.proofs.Common.{◌≡◌, refl, ap, ◌∙◌, List, [], ◌∷◌, ◌++◌, append_assoc, append-nil, ℕ, ◌+◌, ◌-◌, ◌/◌, ◌%◌, ◌≤◌, ◌<◌, zero-add, add-one}
 use Rattle.ranges.specs.Ranges.{span}
-use Rattle.ranges.proofs.Spans.{span_more, span_snoc, map_span}
+use Rattle.ranges.proofs.Spans.{span_more, span_ends, span_snoc, map_span}
 use Rattle.gates.specs.declared.Gate.{Gate}
 use Rattle.gates.specs.Inner.Words.{gate_of}
 use Rattle.gates.proofs.Bytes.{operator_word, target_word}
@@ -30,6 +30,10 @@ module _ (name : ℕ → List ℕ) where
   pub gates_more : (f : ℕ → Gate) (m i : ℕ) → i < m → gate_texts name (span f i (m - i)) ≡ gate_text name (f i) ++ gate_texts name (span f (i + 1) (m - (i + 1)))
   unfolding gate_texts joined
   gates_more f m i lt = rw (span_more f m i lt)
+
+  pub gates_end : (f : ℕ → Gate) (m i : ℕ) → m ≤ i → gate_texts name (span f i (m - i)) ≡ []
+  unfolding gate_texts joined
+  gates_end f m i le = rw (span_ends f m i le)
 
   -- the line of a word's gate, piece by piece
   pub word_parts : (w : ℕ) → gate_text name (gate_of w) ≡ name (w % 256) ++ line_text (w / 256 % 256) ++ joined (span (control_text (gate_of w)) 0 6) ++ (10 ∷ [])

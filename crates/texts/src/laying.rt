@@ -9,14 +9,17 @@ ghost use Rattle.texts.specs.GateTexts.{line_text, control_text, gate_text};
 ghost use Rattle.texts.specs.Inner.StoredTexts.{Appended};
 ghost use Rattle.texts.specs.Inner.Names.{name_of, name_in};
 
-// The name of each operator from 0 on: two letters, or one and a space behind it. No gate has operator 0, whose name is two spaces.
-pub type Names = [[u8; 2]; 6];
+// The name of an operator: two bytes, and how many of them, from the first on, are its letters; a number above 2 counts as 2.
+pub type Name = ([u8; 2], u8);
 
-// How many letters a name has. A slice for each name would need no space, but copying so few bytes takes a call.
-pub fn count_letters(name: [u8; 2]) -> usize
+// The name of each operator from 0 on. No gate has operator 0.
+pub type Names = [Name; 6];
+
+// How many letters a name has. A slice for each name would need no number, but copying so few bytes takes a call.
+pub fn count_letters(name: Name) -> usize
     ensures { (result ≡ length (name_of name)) × (result ≤ 2) }
 {
-    usize::from(name[0] != b' ') + usize::from(name[1] != b' ')
+    usize::from(name.1.min(2))
 }
 
 // The 8 bytes of a word, its lowest byte first.
@@ -33,8 +36,8 @@ fn put_operator(names: &Names, w: u64, line: &mut [u8; 48]) -> usize
     ensures { Appended line.old 0 (name_in names.now (w % 256) ++ line_text (w / 256 % 256)) line.new result × (result ≤ 5) }
 {
     let name = names[(w % 256) as usize];
-    line[0] = name[0];
-    line[1] = name[1];
+    line[0] = name.0[0];
+    line[1] = name.0[1];
     let named = count_letters(name);
     put_word(0x0030_7820 + 0x0001_0000 * (w / 256 % 256), line, named);
     named + 3

@@ -1,5 +1,5 @@
 -- `listings::listing` meets its contract: each return is a case of `listing_answer`. Assumes nothing.
-use Rattle.std.proofs.Common.{◌≡◌, refl, sym, ap, ◌∙◌, ℕ, lt-ltb, le-ltb, zero-add}
+use Rattle.std.proofs.Common.{◌≡◌, refl, sym, ap, ◌∙◌, ℕ, ◌≤◌, length, arith, lt-ltb, le-ltb, zero-add}
 use Rattle.card.specs.Card.{refusing}
 use Rattle.card.proofs.Cards.{refusing_yes, refusing_no, accepted_both, sets_laid}
 use Rattle.card.proofs.Exits.{exit_both}
@@ -36,15 +36,15 @@ unfolding listing_answer listing_room
 returns-in_err-check_room c =
     let p = (goal.at.returns-in_err-check_room c).In_ok-cost in
     let short = rw (c.size_listing.ensures, text p) at c.in_err-check_room.ensures in
-    exit_both _ _ _ short.1 _ c.from_residual-in_err-check_room.ensures.1 _ _ _ (passed _ _ _ _ (whole p) ∙ refusing_yes _ _ _ _ (lt-ltb _ _ short.0))
+    exit_both _ _ _ short.1 _ c.from_residual-in_err-check_room.ensures.1 _ _ _ (passed _ _ _ _ (whole p) ∙ refusing_yes _ _ _ _ (lt-ltb (length c.args.room.now) _ (omega (arith, short.0))))
 
 pub write_listing-requires : goal.write_listing-requires
-write_listing-requires c = (whole (goal.at.write_listing-requires c).In_ok-cost, rw c.size_listing.ensures at c.in_ok-check_room.ensures)
+write_listing-requires c = (whole (goal.at.write_listing-requires c).In_ok-cost, omega (arith, c.size_listing.ensures, c.in_ok-check_room.ensures))
 
 pub returns : goal.returns
 unfolding listing_answer listing_room
 returns c =
     let p = (goal.at.returns c).In_ok-cost in
-    let fits = rw (c.size_listing.ensures, text p) at c.in_ok-check_room.ensures in
+    let fits : length (listing_text c.args.lines (gates_of c.args.cascade.now)) ≤ length c.args.room.now = omega (arith, rw (c.size_listing.ensures, text p) at c.in_ok-check_room.ensures) in
     let stored = rw (text p) at c.write_listing.ensures in
     rw (stored.behind, zero-add) (accepted_both _ _ _ _ _ (passed _ _ _ _ (whole p) ∙ refusing_no _ _ _ _ (le-ltb _ _ fits)) (stored.bytes ∙ sets_laid _ _ fits))

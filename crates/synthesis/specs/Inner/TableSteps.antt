@@ -1,5 +1,5 @@
 -- What the inner functions of synthesis do, in the words of the procedure.
-use Rattle.std.specs.Prelude.{ℕ, ◌+◌, ◌*◌, ◌^◌, ◌≤◌, ◌<◌, ◌≡◌, cond, List, [], ◌++◌, map, leb, length, get_or}
+use Rattle.std.specs.Prelude.{ℕ, ◌+◌, ◌*◌, ◌^◌, ◌≤◌, ◌<◌, ◌≡◌, cond, List, [], ◌++◌, map, leb, length, get_or, drop}
 use Rattle.digits.specs.Digits.{digit, pack}
 use Rattle.gates.specs.declared.Gate.{Gate}
 use Rattle.gates.specs.Gates.{applied}
@@ -61,28 +61,30 @@ pub record GateParts (k controls d : ℕ) : Type 0 where
 
 -- ---- gates as words
 
--- ws' are the words of the gates, and after these the words ws
-abbrev pub WordsLaid : List Gate → List ℕ → List ℕ → Type 0
-WordsLaid gs ws ws' = map bytes_in ws' ≡ map record_of gs ++ map bytes_in ws
+-- the words of the gates stand from place e up to place e' of ws'; from there on it is as ws is, and what stands before e is no matter
+pub record WordsLaid (gs : List Gate) (e e' : ℕ) (ws ws' : List ℕ) : Type 0 where
+  pub count : e + length gs ≡ e'
+  pub size : length ws' ≡ length ws
+  pub words : map bytes_in (drop e ws') ≡ map record_of gs ++ map bytes_in (drop e' ws)
 
--- row i of the table t on n lines, and room for its gates beside the words that were laid before
-pub record RowToSettle (n i : ℕ) (t ws : List ℕ) : Type 0 where
+-- row i of the table t on n lines, and room for its gates before the place e
+pub record RowToSettle (n i : ℕ) (t : List ℕ) (e : ℕ) : Type 0 where
   pub present : Present n t
   pub row : i < 3 ^ n
-  pub room : length (row_from n i n t).found + length ws ≤ 4010
+  pub room : length (row_from n i n t).found ≤ e
 
--- what row i leaves: the table t' in the place of t, and the words ws' in the place of ws
-pub record RowSettled (n i : ℕ) (t ws t' ws' : List ℕ) : Type 0 where
+-- what row i leaves: the table t' in the place of t, and its gates' words from place e up to place e' of ws', which was ws
+pub record RowSettled (n i : ℕ) (t t' : List ℕ) (e e' : ℕ) (ws ws' : List ℕ) : Type 0 where
   pub at : TableReached n (row_from n i n t) t'
-  pub laid : WordsLaid (row_from n i n t).found ws ws'
+  pub laid : WordsLaid (row_from n i n t).found e e' ws ws'
 
--- the table t on n lines, and room for its cascade's words
-pub record TableToSettle (n : ℕ) (t : List ℕ) : Type 0 where
+-- the table t on n lines, and room for its cascade's words before the place e
+pub record TableToSettle (n : ℕ) (t : List ℕ) (e : ℕ) : Type 0 where
   pub present : Present n t
-  pub room : length (synthesized n t) ≤ 4010
+  pub room : length (synthesized n t) ≤ e
 
--- what the cascade of the table t with the inverse v needs: room for its gates' words, and for their records
+-- what the cascade of the table t with the inverse v needs: room for its gates' words, in an array of 4,010, and for their records
 pub record CascadeRoom (n : ℕ) (t v room : List ℕ) : Type 0 where
-  pub settle : TableToSettle n t
+  pub settle : TableToSettle n t 4010
   pub pair : Paired t v
   pub records_fit : 8 * length (synthesized n t) ≤ length room

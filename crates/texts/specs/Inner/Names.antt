@@ -1,17 +1,17 @@
--- The names of the operators in a table: two letters each, or one and a space behind it, which is 32.
-use Rattle.std.specs.Prelude.{ℕ, ◌+◌, cond, List, [], ◌∷◌, map, eqb, get_or, take}
+-- The names of the operators in a table: two bytes each, and how many of them are letters.
+use Rattle.std.specs.Prelude.{ℕ, min, List, [], ◌∷◌, map, get_or, take}
 use Rattle.cascades.specs.Cascades.{records}
 use Rattle.cascades.specs.Inner.Checked.{Whole}
 
 -- how many letters a name has
-abbrev pub name_size : List ℕ → ℕ
-name_size name = cond (eqb (get_or name 0 0) 32) 0 1 + cond (eqb (get_or name 1 0) 32) 0 1
+abbrev pub name_size : List ℕ × ℕ → ℕ
+name_size name = min name.1 2
 
-unfoldable pub name_of : List ℕ → List ℕ
-name_of name = take (name_size name) (get_or name 0 0 ∷ get_or name 1 0 ∷ [])
+unfoldable pub name_of : List ℕ × ℕ → List ℕ
+name_of name = take (name_size name) (get_or name.0 0 0 ∷ get_or name.0 1 0 ∷ [])
 
 -- the name of operator o
-unfoldable pub name_in : List (List ℕ) → ℕ → List ℕ
+unfoldable pub name_in : List (List ℕ × ℕ) → ℕ → List ℕ
 name_in names o = get_or (map name_of names) o []
 
 -- a cascade, on some number of lines

@@ -1,13 +1,15 @@
 -- `names::reading::good_line` meets its contract: the gate that is guessed is one on so many lines, and has this line. That the names are the
 -- operators' is computed. Assumes nothing.
-use Rattle.std.proofs.Common.{◌≡◌, ℕ, ◌^◌, ◌<◌, List, take, sym, ap, ◌∙◌, true, arith}
+use Rattle.std.proofs.Common.{◌≡◌, ◌^◌, ◌<◌, take, sym, ap, ◌∙◌, true, arith, eqb, rules, tests}
+use Rattle.std.specs.Cmp.Lexicographic.{pointwise}
+use Rattle.std.proofs.Math.Seq.{take-length}
 use Rattle.std.proofs.lemmas.Bool.Decides.{Decides-eqb}
 use Rattle.std.proofs.lemmas.Slice.Eq.{slice_eq-Decides}
 use Rattle.gates.specs.Records.{record_of}
 use Rattle.gates.specs.Inner.Words.{bytes_in, is_word, gate_of}
 use Rattle.texts.specs.GateTexts.{gate_text}
 use Rattle.texts.specs.Inner.Names.{name_of, name_in}
-use Rattle.names.specs.Names.{other_name, same_text}
+use Rattle.names.specs.Names.{other_name}
 use Rattle.names.specs.Inner.Guesses.{guessed}
 use Rattle.names.proofs.SameTexts.{same_decides}
 use Rattle.names.proofs.GoodWords.{good_not, guess_known, good_text}
@@ -44,5 +46,6 @@ put_gate-size-requires c =
 pub returns : goal.returns
 returns c =
     let d = goal.at.returns c in
-    same_decides _ _ _ (slice_eq-Decides Decides-eqb _ _ _ c.eq.ensures)
-    ∙ ap (λ (x : List ℕ). same_text x c.args.line.now) (text d.After-put_gate-size) ∙ good_text _ _ _ c.requires (low d.After-is_gate) (wrote d.After-is_gate) (is d.Else-not-is_gate)
+    let laid = text d.After-put_gate-size in
+    let compared : c.eq.result ≡ pointwise eqb (gate_text other_name (gate_of c.word_of-w.result)) c.args.line.now = search (rules, tests, take-length) in
+    same_decides _ _ _ (slice_eq-Decides Decides-eqb _ _ _ compared) ∙ good_text _ _ _ c.requires (low d.After-is_gate) (wrote d.After-is_gate) (is d.Else-not-is_gate)

@@ -19,10 +19,10 @@ module _ (c : After-control_on) where
   k = c.find_line-k.result
 
   on : k < n
-  on = line c.loop-left.invariant c.find_line-k.ensures c.requires.row
+  on = line c.loop-left.invariant.0 c.find_line-k.ensures c.requires.row
 
   a_lt : c.loop-left.a < 3 ^ n
-  a_lt = entry_below c.loop-left.invariant c.requires.row
+  a_lt = entry_below c.loop-left.invariant.0 c.requires.row
 
   d_is : c.control_on-d.result ≡ digit 3 k c.args.i
   d_is = c.control_on-d.ensures ∙ ap (digit 4 k) c.name-to.ensures ∙ full_line n c.args.i c.requires.present.lines k on
@@ -31,12 +31,12 @@ module _ (c : After-control_on) where
   d_lt = rw d_is (digit_lt 3 _ _ three_pos)
 
 pub loop-left-init : goal.loop-left-init
-loop-left-init c = settling_start _ _ _ _ _ _ _ c.requires.present c.entry-a.ensures c.name-from.ensures c.name-to.ensures
+loop-left-init c = (settling_start _ _ _ _ _ _ _ _ c.requires.present c.entry-a.ensures c.name-from.ensures c.name-to.ensures, refl, refl, refl)
 
 pub with_digit-b-requires : goal.with_digit-b-requires
 with_digit-b-requires c = (
   omega (arith, c.find_line-k.ensures.line),
-  c.control_on.ensures ∙ digit_came c.loop-left.invariant c.find_line-k.ensures c.requires.row,
+  c.control_on.ensures ∙ digit_came c.loop-left.invariant.0 c.find_line-k.ensures c.requires.row,
   omega (arith, a_lt c, patterns_most (n c) c.requires.present.lines),
   d_lt c,
 )
@@ -53,20 +53,29 @@ gate_for-requires c =
     }
 
 pub lay-requires : goal.lay-requires
-lay-requires c = some_room c.loop-left.invariant c.find_line-k.ensures c.requires.row c.requires.room
+lay-requires c = some_room c.loop-left.invariant.0 c.find_line-k.ensures c.requires.row c.requires.room
 
 pub exchange-requires : goal.exchange-requires
 exchange-requires c =
     let w = (goal.at.exchange-requires c).After-control_on in
-    let size = c.loop-left.invariant.at.present.size in
+    let size = c.loop-left.invariant.0.at.present.size in
     let b_lt = put_lt 3 (n w) (k w) c.loop-left.a c.control_on-d.result (a_lt w) (on w) (d_lt w) in
     (omega (arith, size, a_lt w), omega (arith, size, c.with_digit-b.ensures, b_lt))
 
 pub loop-left-preserved : goal.loop-left-preserved
 loop-left-preserved c =
     let w = (goal.at.loop-left-preserved c).After-control_on in
-    settling_turn c.loop-left.invariant c.find_line-k.ensures c.requires.row _ _ _ _ _ _ (d_is w) c.with_digit-b.ensures c.exchange.ensures
-    (c.word_of.ensures ∙ ap record_of (c.gate_for.ensures (n w) c.loop-left.a c.requires.present.lines (on w) c.name.ensures)) c.lay.ensures refl
+    let g = c.loop-left.invariant in
+    let e = c.exchange.ensures in
+    let l = c.lay.ensures in (
+      settling_turn g.0 c.find_line-k.ensures c.requires.row _ _ _ _ _ _ _ (d_is w) c.with_digit-b.ensures e.table_after
+          (c.word_of.ensures ∙ ap record_of (c.gate_for.ensures (n w) c.loop-left.a c.requires.present.lines (on w) c.name.ensures)) l.place.0 l.place.1 l.laid refl,
+      e.same_references.0 ∙ g.1,
+      e.same_references.1 ∙ g.2,
+      l.same_reference ∙ g.3,
+    )
 
 pub returns : goal.returns
-returns c = settling_end c.loop-left.invariant c.loop-left-test.false
+returns c =
+    let g = c.loop-left.invariant in
+    record { same_table = (g.1, g.2); same_words = g.3; settled = settling_end g.0 c.loop-left-test.false }

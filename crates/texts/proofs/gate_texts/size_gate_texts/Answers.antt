@@ -19,7 +19,7 @@ use Rattle.texts.proofs.gate_texts.size_gate_texts.Goals.{After-word_at}
 use Rattle.texts.proofs.gate_texts.size_gate_texts.Invariants.{Going}
 
 -- one turn
-module _ (names : List (List ℕ)) (six : length names ≡ 6) (b : List ℕ) (p : Printable b) (rest : List ℕ) (i size : ℕ) (g : Going names b rest i size)
+module _ (names : List (List ℕ × ℕ)) (six : length names ≡ 6) (b : List ℕ) (p : Printable b) (rest : List ℕ) (i size : ℕ) (g : Going names b rest i size)
     (x more : List ℕ) (cut : rest ≡ x ++ more) (long : length x ≡ 8) (w : ℕ) (read : Word x 0 w) where
   lt : i < records b
   lt = walking_more b i rest g.walking x more cut long

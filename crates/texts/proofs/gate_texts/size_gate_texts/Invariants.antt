@@ -8,7 +8,7 @@ use Rattle.texts.proofs.Walks.{Walking}
 use Rattle.texts.proofs.gate_texts.size_gate_texts.Given as goal
 
 -- the bytes of the lines of i gates
-pub record Going (names : List (List ℕ)) (b rest : List ℕ) (i size : ℕ) : Type 0 where
+pub record Going (names : List (List ℕ × ℕ)) (b rest : List ℕ) (i size : ℕ) : Type 0 where
   pub walking : Walking b i rest
   pub so_far : size ≡ length (gate_texts (name_in names) (span (gate_in b) 0 i))
   pub small : size ≤ 31 * i

@@ -19,7 +19,7 @@ use Rattle.texts.proofs.gate_texts.write_gate_texts.Goals as goal
 use Rattle.texts.proofs.gate_texts.write_gate_texts.Invariants.{Going}
 
 -- one turn
-module _ (names : List (List ℕ)) (b : List ℕ) (p : Printable b) (rest : List ℕ) (i : ℕ) (out₀ out : Writer) (g : Going names b rest i out₀ out)
+module _ (names : List (List ℕ × ℕ)) (b : List ℕ) (p : Printable b) (rest : List ℕ) (i : ℕ) (out₀ out : Writer) (g : Going names b rest i out₀ out)
     (x more : List ℕ) (cut : rest ≡ x ++ more) (long : length x ≡ 8) (w : ℕ) (read : Word x 0 w) where
   lt : i < records b
   lt = walking_more b i rest g.walking x more cut long

@@ -10,7 +10,7 @@ use Rattle.texts.proofs.Walks.{Walking}
 use Rattle.texts.proofs.gate_texts.write_gate_texts.Given as goal
 
 -- the lines of i gates are written, and there is room for those of the others
-pub record Going (names : List (List ℕ)) (b rest : List ℕ) (i : ℕ) (out₀ out : Writer) : Type 0 where
+pub record Going (names : List (List ℕ × ℕ)) (b rest : List ℕ) (i : ℕ) (out₀ out : Writer) : Type 0 where
   pub walking : Walking b i rest
   pub wrote : Wrote out₀ (gate_texts (name_in names) (span (gate_in b) 0 i)) out
   pub ahead : HasRoom out (gate_texts (name_in names) (span (gate_in b) i (records b - i)))

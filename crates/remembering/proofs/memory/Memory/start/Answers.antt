@@ -1,6 +1,9 @@
--- `remembering::memory::Memory::start` meets its contract: each row is clear up to the next, and every gate meets what is not known. Assumes nothing.
-use Rattle.std.proofs.Common.{◌≡◌, ℕ, ◌+◌, ◌/◌, ◌<◌, get_or, replicate, ap, ◌∙◌, arith}
+-- `remembering::memory::Memory::start` meets its contract: both lists are filled from their start on, so that each row is clear up to the next; and every
+-- gate meets what is not known. Assumes nothing.
+use Rattle.std.proofs.Common.{◌≡◌, refl, List, ℕ, zero, suc, ◌+◌, ◌*◌, ◌/◌, ◌<◌, length, get_or, replicate, ap, ◌∙◌, rules, arith}
 use Rattle.std.proofs.Math.ListN.{length-replicate, get_or-replicate}
+use Rattle.ranges.proofs.Fills.{filled, filling_start, filling_length, filling_next}
+use Rattle.ranges.proofs.Changes.{filled_at, filled_rest}
 use Rattle.remembering.specs.declared.memory.Memory.{Memory}
 use Rattle.remembering.specs.declared.views.Sets.{Sets}
 use Rattle.remembering.specs.Inner.Views.{all_kinds}
@@ -9,25 +12,64 @@ use Rattle.remembering.proofs.Reaches.{reach_start}
 use Rattle.remembering.proofs.Stretches.{marked_start}
 use Rattle.remembering.proofs.memory.Memory.start.Goals as goal
 
-pub returns : goal.returns
-returns g c = λ gs e real.
-    let m = c.args.m in
-    let few = c.requires.1.few in
+zeros : (n r : ℕ) → ◌≡◌ {A = ℕ} (get_or (replicate n 0) r 0) 0
+zeros zero r = refl
+zeros (suc n) zero = refl
+zeros (suc n) (suc r) = zeros n r
+
+pub loop-r-init : goal.loop-r-init
+loop-r-init g c = (refl, filling_start _ _)
+
+pub loop-r-preserved : goal.loop-r-preserved
+loop-r-preserved g c =
+    let w = c.loop-r.invariant in
+    let long : length c.args.self.now.far ≡ g.row.R = ap (λ (x : Memory g.row.R g.row.S). length x.far) c.requires.0 ∙ length-replicate g.row.R 0 in
+    (search rules, filling_next _ _ _ _ w.1 0 _ refl (omega (arith, long, c.requires.1.far_room)))
+
+pub loop-s-init : goal.loop-s-init
+loop-s-init g c = (refl, filling_start _ _)
+
+pub loop-s-preserved : goal.loop-s-preserved
+loop-s-preserved g c =
+    let w = c.loop-s.invariant in
+    let same = ap (λ (x : Memory g.row.R g.row.S). x.reach) c.loop-r.invariant.0 in
+    let long : length c.loop-r.self.reach ≡ g.row.S = rw same (ap (λ (x : Memory g.row.R g.row.S). length x.reach) c.requires.0 ∙ length-replicate g.row.S 0) in
+    (search rules, filling_next _ _ _ _ w.1 0 _ refl (omega (arith, long, c.requires.1.reach_room)))
+
+pub returns-clause-numbers : goal.returns-clause-numbers
+unfolding filled
+returns-clause-numbers g c =
     let rows = c.loop-r.invariant in
     let stretches = c.loop-s.invariant in
+    let all : c.loop-r.r ≡ c.args.m = omega arith in
+    let last : c.loop-s.s ≡ (c.args.m + 15) / 16 = omega arith in (
+      ap (λ (x : Memory g.row.R g.row.S). x.far) stretches.0 ∙ (rw all at rows.1.is),
+      rw (last, ap (λ (x : Memory g.row.R g.row.S). x.reach) rows.0) at stretches.1.is,
+      ap (λ (x : Memory g.row.R g.row.S). x.marks) stretches.0 ∙ ap (λ (x : Memory g.row.R g.row.S). x.marks) rows.0,
+    )
+
+pub returns-clause-fresh : goal.returns-clause-fresh
+returns-clause-fresh g c = λ gs e real.
+    let m = c.args.m in
+    let few = c.requires.1.few in
+    let numbers = returns-clause-numbers g c in
+    let was = c.args.self.now.far in
+    let blank : was ≡ replicate g.row.R 0 = ap (λ (x : Memory g.row.R g.row.S). x.far) c.requires.0 in
     let none : Sets = record { types = all_kinds; kinds = all_kinds } in
-    let same : c.loop-s.self.far ≡ c.loop-r.self.far = ap (λ (x : Memory g.row.R g.row.S). x.far) stretches.0 in
-    let marks : c.loop-s.self.marks ≡ replicate g.row.S none =
-    ap (λ (x : Memory g.row.R g.row.S). x.marks) stretches.0 ∙ ap (λ (x : Memory g.row.R g.row.S). x.marks) rows.0 ∙ ap (λ (x : Memory g.row.R g.row.S). x.marks) c.requires.0 in
+    let marks : c.loop-s.self.marks ≡ replicate g.row.S none = numbers.2 ∙ ap (λ (x : Memory g.row.R g.row.S). x.marks) c.requires.0 in
     let long = length-replicate {A = Sets} g.row.S none in
-    let low : (r : ℕ) → r < m → get_or c.loop-s.self.far r 0 ≡ r + 1 = λ r l. rw same (rows.2 r (omega arith)) in
+    let far_long : length c.loop-s.self.far ≡ g.row.R =
+    ap (λ (x : Memory g.row.R g.row.S). length x.far) c.loop-s.invariant.0 ∙ filling_length _ _ _ _ c.loop-r.invariant.1 ∙ ap length blank ∙ length-replicate g.row.R 0 in
+    let low : (r : ℕ) → r < m → get_or c.loop-s.self.far r 0 ≡ r + 1 = λ r l. rw numbers.0 (filled_at (λ r. r + 1) was m r 0 l) in
     record {
       count = e;
       room = c.requires.1;
       within = omega arith;
-      known = known_start gs m _ e few (rw (same, rows.1) c.requires.1.far_room) low real;
+      known = known_start gs m _ e few (rw far_long c.requires.1.far_room) low real;
       no_pair = λ r l. absurd (omega arith);
-      bounds = reach_start m ((m + 15) / 16) _ _ (omega arith) (omega (arith, few)) low (λ r l. rw same (rows.3 r (omega arith))) (λ s l. stretches.1 s (omega arith));
+      bounds = reach_start m ((m + 15) / 16) _ _ (omega arith) (omega (arith, few)) low
+          (λ r l. rw numbers.0 (filled_rest (λ r. r + 1) was m r 0 l ∙ ap (λ (l : List ℕ). get_or l r 0) blank ∙ zeros g.row.R r))
+          (λ s l. rw numbers.1 (filled_at (λ s. 16 * s + 16) c.args.self.now.reach ((m + 15) / 16) s 0 l));
       marked = marked_start gs _ (rw (marks, long) (omega (arith, c.requires.1.reach_room)))
           (λ s l. rw marks (ap (λ (x : Sets). x.kinds) (get_or-replicate g.row.S s none (record { types = 0; kinds = 0 }) (rw (marks, long) at l))));
     }
