@@ -37,8 +37,8 @@ impl<const R: usize, const S: usize> Memory<R, S> {
     // Of m gates, after none: each row is clear up to the gate behind its own, and of no stretch anything is known. It is begun where it lies, since to
     // hand it out copies it.
     pub fn start(&mut self, m: usize)
-        requires { (self.old ≡ blank R S) × RoomFor R S m }
-        ensures fresh { MemoryFresh self.new m }
+        requires { (m ≤ 8000) × (m ≤ R) × (m ≤ 16 * S) }
+        ensures fresh { self.old ≡ blank R S → RoomFor R S m → MemoryFresh self.new m }
         ensures numbers { (self.new.far ≡ span (λ r. r + 1) 0 m ++ drop m self.old.far)
             × (self.new.reach ≡ span (λ s. 16 * s + 16) 0 ((m + 15) / 16) ++ drop ((m + 15) / 16) self.old.reach)
             × (self.new.marks ≡ self.old.marks) }
