@@ -8,7 +8,12 @@ use Rattle.gates.specs.declared.Gate.{Gate}
 use Rattle.gates.specs.Gates.{control, IsGate, control_count}
 use Rattle.pricing.specs.Prices.{others, plain_price, gate_price}
 use Rattle.pricing.specs.Inner.Rates.{points, points_of, points_price, extra}
-use Rattle.pricing.proofs.Costs.{others_le, controls_le}
+use Rattle.pricing.proofs.Costs.{base_five, others_le, controls_le}
+
+-- the price of p points is 85 at most
+pub points_price_le : (p : ℕ) → p < 36 → points_price p ≤ 85
+unfolding points_price
+points_price_le p lt = omega (arith, base_five (p % 6) (omega arith))
 
 -- the points of three lines, as they are added up
 pub points_three : (v c : ℕ) → points v (digit 4 0 c) + points v (digit 4 1 c) + points v (digit 4 2 c) ≡ points_of 3 v c

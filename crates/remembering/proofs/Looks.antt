@@ -11,7 +11,8 @@ use Rattle.remembering.specs.declared.memory.Memory.{Memory}
 use Rattle.remembering.specs.Inner.Buffers.{is_gap, GateOrGap}
 use Rattle.remembering.specs.Inner.LentBuffers.{held}
 use Rattle.remembering.specs.Inner.Rows.{Quiet, settled_mark, RowKnown, RowsKnown}
-use Rattle.remembering.specs.Inner.Views.{SeenAs}
+use Rattle.remembering.specs.Inner.Views.{SeenAs, StretchesMarked}
+use Rattle.remembering.specs.Inner.Memories.{MemoryTrue}
 use Rattle.remembering.specs.Inner.GateChanges.{change_of, ChangeFits, RowsAhead, LookFits, LookedAgain, Looked}
 use Rattle.remembering.proofs.Clearances.{row_stays, again_near, row_behind, row_own}
 
@@ -90,3 +91,19 @@ module _ {R S : ℕ} (b : Buffer) (change : Change) (start : Memory R S) (x : �
           bounds = v.bounds;
           marked = v.marked;
         }
+
+-- ---- no row looks again
+
+-- what is remembered stays true where the rows keep their numbers, and what is known of the stretches is true
+pub rows_kept : {R S : ℕ} (gs : List Gate) (memory later : Memory R S) (m x : ℕ) → MemoryTrue gs memory m x → (later.far ≡ memory.far) × (later.reach ≡ memory.reach)
+    → StretchesMarked gs later.marks → MemoryTrue gs later m x
+rows_kept gs memory later m x w same marked =
+    record {
+      count = w.count;
+      room = w.room;
+      within = w.within;
+      known = rw same.0 w.known;
+      no_pair = rw same.0 w.no_pair;
+      bounds = rw (same.0, same.1) w.bounds;
+      marked = marked;
+    }

@@ -6,6 +6,7 @@ ghost use Rattle.rules.specs.Tidying.{gate};
 ghost use Rattle.remembering.specs.Inner.Buffers.{is_gap};
 ghost use Rattle.remembering.specs.Inner.LentBuffers.{held};
 ghost use Rattle.remembering.specs.Inner.Rows.{Clear, Stops, NoPairBefore, NextRow};
+ghost use Rattle.remembering.specs.Inner.Views.{StretchesMarked};
 ghost use Rattle.remembering.specs.Inner.Memories.{blank, RoomFor, MemoryTrue, MemoryFresh};
 
 use super::buffer::Buffer;
@@ -36,8 +37,8 @@ impl<const R: usize, const S: usize> Memory<R, S> {
     // Of m gates, after none: each row is clear up to the gate behind its own, and of no stretch anything is known. It is begun where it lies, since to
     // hand it out copies it.
     pub fn start(&mut self, m: usize)
-        requires { (self.old ≡ blank R S) × RoomFor R S m }
-        ensures fresh { MemoryFresh self.new m }
+        requires { (m ≤ 8000) × (m ≤ R) × (m ≤ 16 * S) }
+        ensures fresh { self.old ≡ blank R S → RoomFor R S m → MemoryFresh self.new m }
         ensures numbers { (self.new.far ≡ span (λ r. r + 1) 0 m ++ drop m self.old.far)
             × (self.new.reach ≡ span (λ s. 16 * s + 16) 0 ((m + 15) / 16) ++ drop ((m + 15) / 16) self.old.reach)
             × (self.new.marks ≡ self.old.marks) }
@@ -81,9 +82,10 @@ impl<const R: usize, const S: usize> Memory<R, S> {
     // Row i is clear up to a place; answers up to where it is clear once whole stretches from there on are passed. They are not looked at on a short
     // walk, and the row's record is read here, so that nothing is made ready for rows that walk no further.
     pub fn pass_stretches(&mut self, buffer: &Buffer, i: usize, from: usize) -> usize
-        requires { MemoryTrue (held buffer.now) self.old buffer.now.count i × (is_gap (gate (held buffer.now) i) ≡ false)
+        requires { StretchesMarked (held buffer.now) self.old.marks × (is_gap (gate (held buffer.now) i) ≡ false)
             × Clear (held buffer.now) i from }
-        ensures { MemoryTrue (held buffer.now) self.new buffer.now.count i × (from ≤ result) × Clear (held buffer.now) i result }
+        ensures passed { StretchesMarked (held buffer.now) self.new.marks × (from ≤ result) × Clear (held buffer.now) i result }
+        ensures rows { (self.new.far ≡ self.old.far) × (self.new.reach ≡ self.old.reach) }
     {
         if from < i + 16 || from % 16 != 0 {
             return from;

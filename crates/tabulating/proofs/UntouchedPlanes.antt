@@ -1,9 +1,9 @@
 -- The planes of inputs that no gate has touched: `untouched_start`, `untouched_next` and `untouched_shows` are the start, one turn for a line and the end of
--- the loop that makes them. Assumes nothing.
-use Rattle.std.proofs.Common.{◌≡◌, refl, ◌∙◌, ◌&&◌, ◌||◌, List, [], ◌∷◌, ℕ, zero, suc, ◌+◌, ◌≤◌, ◌<◌, ◌⊎◌, inl, inr, length, get_or, set, replicate, eqb, ltb, lt-ltb, le-ltb, eq-eqb, ne_eqb, arith}
+-- the loop that makes them, `bare_start`, `bare_next` and `bare_all` those of the loop before it, which makes each line bare. Assumes nothing.
+use Rattle.std.proofs.Common.{◌≡◌, refl, sym, ◌∙◌, ◌&&◌, ◌||◌, List, [], ◌∷◌, ℕ, zero, suc, ◌+◌, ◌≤◌, ◌<◌, ◌⊎◌, inl, inr, length, get_or, set, length-set, replicate, eqb, ltb, lt-ltb, le-ltb, eq-eqb, ne_eqb, arith}
 use Rattle.std.proofs.Math.Bool.{or-false, and-true, and-false}
 use Rattle.std.proofs.Math.Decide.{ℕ_discrete}
-use Rattle.std.proofs.lemmas.List.{get_or-replicate, get_or-set_same, get_or-set_other}
+use Rattle.std.proofs.lemmas.List.{ext_get_or, get_or-replicate, get_or-set_same, get_or-set_other}
 use Rattle.ranges.proofs.Counts.{lt_or_le}
 use Rattle.digits.specs.Digits.{digit}
 use Rattle.digits.proofs.Digits.{digit_lt}
@@ -11,7 +11,11 @@ use Rattle.gates.specs.Gates.{holds}
 use Rattle.tabulating.specs.Inner.Planes.{member, LineUpTo, ShownUpTo, Shows}
 use Rattle.tabulating.proofs.PlaneBits.{all_in, none_in}
 
--- a line's planes before any input
+-- a line's planes with no input at all
+abbrev pub blank_line : List (List ℕ)
+blank_line = replicate 4 (replicate 12 0)
+
+-- a line's planes before any input: that for none has all
 abbrev pub bare_line : List (List ℕ)
 bare_line = replicate 12 0 ∷ replicate 12 0 ∷ replicate 12 0 ∷ replicate 12 0xffff_ffff_ffff_ffff ∷ []
 
@@ -24,6 +28,37 @@ bare_up_to k (suc (suc (suc (suc c)))) q lc lq = absurd (omega arith)
 
 pub untouched_start : ShownUpTo (replicate 6 bare_line) 0
 untouched_start k lk = rw (get_or-replicate 6 k bare_line [] lk) (bare_up_to k)
+
+-- the lines below i are bare, the others blank
+pub record BareUpTo (b : List (List (List ℕ))) (i : ℕ) : Type 0 where
+  pub long : length b ≡ 6
+  pub done : (k : ℕ) → k < i → get_or b k [] ≡ bare_line
+  pub left : (k : ℕ) → i ≤ k → k < 6 → get_or b k [] ≡ blank_line
+
+pub bare_start : BareUpTo (replicate 6 blank_line) 0
+bare_start = record { long = refl; done = λ k lt. absurd (omega arith); left = λ k le lk. get_or-replicate 6 k blank_line [] lk }
+
+-- a blank line gets its plane for none
+pub bare_next : (b : List (List (List ℕ))) (i : ℕ) (new : List (List ℕ)) → i < 6 → new ≡ set (get_or b i []) 3 (replicate 12 0xffff_ffff_ffff_ffff)
+    → BareUpTo b i → BareUpTo (set b i new) (i + 1)
+bare_next b i new li made up =
+    record {
+      long = simp length-set up.long;
+      done = λ k lt. go k lt (ℕ_discrete k i);
+      left = λ k le lk. rw (get_or-set_other b i k new [] (λ e. omega arith)) (up.left k (omega arith) lk);
+    }
+  where
+    bare : new ≡ bare_line
+    bare = rw (made, up.left i (omega arith) li) refl
+
+    go : (k : ℕ) → k < i + 1 → Dec (k ≡ i) → get_or (set b i new) k [] ≡ bare_line
+    go k lt (yes e) = rw (e, get_or-set_same b i new [] (omega (arith, up.long, li))) bare
+    go k lt (no ne) = rw (get_or-set_other b i k new [] ne) (up.done k (omega arith))
+
+pub bare_all : (b : List (List (List ℕ))) (i : ℕ) → 6 ≤ i → BareUpTo b i → b ≡ replicate 6 bare_line
+bare_all b i all up =
+    ext_get_or [] b (replicate 6 bare_line) up.long
+    (λ k lk. let few : k < 6 = omega (arith, up.long, lk) in up.done k (omega arith) ∙ sym (get_or-replicate 6 k bare_line [] few))
 
 -- input p joins a plane of a line
 pub plane_joined : (line : List (List ℕ)) (d p : ℕ) (new : List ℕ) → d < length line → ((q : ℕ) → q < 729 → member new q ≡ (member (get_or line d []) q || eqb q p))

@@ -31,14 +31,17 @@ fn lay_input(planes: &mut Planes, p: u16)
     }
 }
 
-// The planes of so many inputs, which join one after the other. A control that is none is content with all: its planes have every bit from the start.
-pub fn lay_inputs(count: u16) -> Planes
+// The planes of so many inputs, whatever they held before: the inputs join one after the other. A control that is none is content with all: its planes have
+// every bit from the start.
+pub fn lay_inputs(planes: &mut Planes, count: u16)
     requires { count ≤ 729 }
-    ensures { Shows count result (λ p. p) }
+    ensures { Shows count planes.new (λ p. p) }
 {
-    let mut planes = [[[0; 12], [0; 12], [0; 12], [u64::MAX; 12]]; 6];
-    for p in 0..count {
-        lay_input(&mut planes, p);
+    *planes = [[[0; 12]; 4]; 6];
+    for line in planes.iter_mut() {
+        line[3] = [u64::MAX; 12];
     }
-    planes
+    for p in 0..count {
+        lay_input(planes, p);
+    }
 }

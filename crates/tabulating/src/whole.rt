@@ -9,7 +9,8 @@ pub fn write_table(lines: u8, cascade: &[u8], m: usize, table: &mut [u16])
     requires table_len { length table.old ≡ 3 ^ lines }
     ensures { table.new ≡ table_of lines (gates_of cascade.now) }
 {
-    let mut planes = super::untouched::lay_inputs(table.len() as u16);
+    let mut planes = [[[0; 12]; 4]; 6];
+    super::untouched::lay_inputs(&mut planes, table.len() as u16);
     super::planes::apply_gates(lines, cascade, m, &mut planes);
     super::shown_entries::write_entries(&planes, table);
 }

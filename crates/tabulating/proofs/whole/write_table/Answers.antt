@@ -15,11 +15,11 @@ module _ (c : Start) where
 pub overflow_cast-table : goal.overflow_cast-table
 overflow_cast-table c = omega (arith, most (goal.at.overflow_cast-table c).Start)
 
-pub lay_inputs-planes-requires : goal.lay_inputs-planes-requires
-lay_inputs-planes-requires c = most (goal.at.lay_inputs-planes-requires c).Start
+pub lay_inputs-requires : goal.lay_inputs-requires
+lay_inputs-requires c = most (goal.at.lay_inputs-requires c).Start
 
 pub returns : goal.returns
 returns c =
     let whole = c.requires.whole in
     c.write_entries.ensures
-    ∙ rw c.requires.table_len (shown_table _ _ _ (lines_are _ whole.lines).1 (gates_good _ _ _ whole) (rw c.requires.table_len at (c.apply_gates.ensures _ _ c.lay_inputs-planes.ensures)))
+    ∙ rw c.requires.table_len (shown_table _ _ _ (lines_are _ whole.lines).1 (gates_good _ _ _ whole) (rw c.requires.table_len at (c.apply_gates.ensures _ _ c.lay_inputs.ensures)))

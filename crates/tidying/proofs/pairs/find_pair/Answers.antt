@@ -9,6 +9,7 @@ use Rattle.remembering.specs.Inner.LentBuffers.{held}
 use Rattle.remembering.specs.Inner.Rows.{Stops}
 use Rattle.remembering.proofs.Buffers.{length_gates, gates_inside, holds_gate}
 use Rattle.remembering.proofs.Clearances.{row_real}
+use Rattle.remembering.proofs.Looks.{rows_kept}
 use Rattle.remembering.proofs.Stretches.{shut_unfit}
 use Rattle.tidying.proofs.pairs.find_pair.Goals as goal
 use Rattle.tidying.proofs.pairs.find_pair.Goals.{else-loop-j-test, then-loop-j-test+then-not-may_change}
@@ -32,3 +33,8 @@ rows-preserved g c =
           record { unfit = λ l. shut_unfit _ _ row_gate (holds_gate _ _ c.args.buffer.now.holds _ l) shut; shut = λ l. shut }
     ] in
     c.stop_row.ensures _ _ c.loop-j.invariant.0 next.within real c.loop-j.invariant.1 stops
+
+pub loop-j-preserved : goal.loop-j-preserved
+loop-j-preserved g c =
+    let passed = c.pass_stretches-j.ensures.passed in
+    (rows_kept _ _ _ _ _ c.loop-j.invariant.0 c.pass_stretches-j.ensures.rows passed.0, passed.2)

@@ -8,7 +8,7 @@ use Rattle.tidying.proofs.Repetitions.{size_le, stepping_start, stepping_next, s
 use Rattle.tidying.proofs.repeating.repeat_steps.Goals as goal
 
 pub loop-pair-init : goal.loop-pair-init
-loop-pair-init g c = ((refl, refl), stepping_start _ _ c.requires.0 c.start.ensures.fresh)
+loop-pair-init g c = ((refl, refl), stepping_start _ _ c.requires.0 (c.start.ensures.fresh c.requires.1 c.requires.2))
 
 pub overflow_add-steps : goal.overflow_add-steps
 overflow_add-steps g c =

@@ -22,19 +22,15 @@ loop-r-init g c = (refl, filling_start _ _)
 
 pub loop-r-preserved : goal.loop-r-preserved
 loop-r-preserved g c =
-    let w = c.loop-r.invariant in
-    let long : length c.args.self.now.far ≡ g.row.R = ap (λ (x : Memory g.row.R g.row.S). length x.far) c.requires.0 ∙ length-replicate g.row.R 0 in
-    (search rules, filling_next _ _ _ _ w.1 0 _ refl (omega (arith, long, c.requires.1.far_room)))
+    (search rules, filling_next _ _ _ _ c.loop-r.invariant.1 0 _ refl (omega arith))
 
 pub loop-s-init : goal.loop-s-init
 loop-s-init g c = (refl, filling_start _ _)
 
 pub loop-s-preserved : goal.loop-s-preserved
 loop-s-preserved g c =
-    let w = c.loop-s.invariant in
-    let same = ap (λ (x : Memory g.row.R g.row.S). x.reach) c.loop-r.invariant.0 in
-    let long : length c.loop-r.self.reach ≡ g.row.S = rw same (ap (λ (x : Memory g.row.R g.row.S). length x.reach) c.requires.0 ∙ length-replicate g.row.S 0) in
-    (search rules, filling_next _ _ _ _ w.1 0 _ refl (omega (arith, long, c.requires.1.reach_room)))
+    let same = ap (λ (x : Memory g.row.R g.row.S). length x.reach) c.loop-r.invariant.0 in
+    (search rules, filling_next _ _ _ _ c.loop-s.invariant.1 0 _ refl (omega (arith, same)))
 
 pub returns-clause-numbers : goal.returns-clause-numbers
 unfolding filled
@@ -49,27 +45,26 @@ returns-clause-numbers g c =
     )
 
 pub returns-clause-fresh : goal.returns-clause-fresh
-returns-clause-fresh g c = λ gs e real.
+returns-clause-fresh g c = λ clean room gs e real.
     let m = c.args.m in
-    let few = c.requires.1.few in
     let numbers = returns-clause-numbers g c in
     let was = c.args.self.now.far in
-    let blank : was ≡ replicate g.row.R 0 = ap (λ (x : Memory g.row.R g.row.S). x.far) c.requires.0 in
+    let blank : was ≡ replicate g.row.R 0 = ap (λ (x : Memory g.row.R g.row.S). x.far) clean in
     let none : Sets = record { types = all_kinds; kinds = all_kinds } in
-    let marks : c.loop-s.self.marks ≡ replicate g.row.S none = numbers.2 ∙ ap (λ (x : Memory g.row.R g.row.S). x.marks) c.requires.0 in
+    let marks : c.loop-s.self.marks ≡ replicate g.row.S none = numbers.2 ∙ ap (λ (x : Memory g.row.R g.row.S). x.marks) clean in
     let long = length-replicate {A = Sets} g.row.S none in
     let far_long : length c.loop-s.self.far ≡ g.row.R =
     ap (λ (x : Memory g.row.R g.row.S). length x.far) c.loop-s.invariant.0 ∙ filling_length _ _ _ _ c.loop-r.invariant.1 ∙ ap length blank ∙ length-replicate g.row.R 0 in
     let low : (r : ℕ) → r < m → get_or c.loop-s.self.far r 0 ≡ r + 1 = λ r l. rw numbers.0 (filled_at (λ r. r + 1) was m r 0 l) in
     record {
       count = e;
-      room = c.requires.1;
+      room = room;
       within = omega arith;
-      known = known_start gs m _ e few (rw far_long c.requires.1.far_room) low real;
+      known = known_start gs m _ e room.few (rw far_long room.far_room) low real;
       no_pair = λ r l. absurd (omega arith);
-      bounds = reach_start m ((m + 15) / 16) _ _ (omega arith) (omega (arith, few)) low
+      bounds = reach_start m ((m + 15) / 16) _ _ (omega arith) (omega (arith, room.few)) low
           (λ r l. rw numbers.0 (filled_rest (λ r. r + 1) was m r 0 l ∙ ap (λ (l : List ℕ). get_or l r 0) blank ∙ zeros g.row.R r))
           (λ s l. rw numbers.1 (filled_at (λ s. 16 * s + 16) c.args.self.now.reach ((m + 15) / 16) s 0 l));
-      marked = marked_start gs _ (rw (marks, long) (omega (arith, c.requires.1.reach_room)))
+      marked = marked_start gs _ (rw (marks, long) (omega (arith, room.reach_room)))
           (λ s l. rw marks (ap (λ (x : Sets). x.kinds) (get_or-replicate g.row.S s none (record { types = 0; kinds = 0 }) (rw (marks, long) at l))));
     }
