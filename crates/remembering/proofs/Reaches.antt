@@ -51,36 +51,36 @@ none_counted s x e p r is inside count none a b q =
 -- ---- how far the rows of a stretch reach
 
 -- sixteen stretches that do not reach gate p
-pub reach_many : (far reach : List ℕ) (p x e most r : ℕ) → ReachBounds far reach → e ≡ x + 16 → e ≤ length reach → All (λ n. n % settled_mark ≤ most) (take (e - x) (drop x reach)) → most < p
-    → 16 * x ≤ r → r < 16 * x + 256 → get_or far r 0 % settled_mark < p
-reach_many far reach p x e most r w is long all lt a b =
+pub reach_many : (far reach : List ℕ) (m p x e most r : ℕ) → ReachBounds far reach m → e ≡ x + 16 → e ≤ length reach → All (λ n. n % settled_mark ≤ most) (take (e - x) (drop x reach)) → most < p
+    → 16 * x ≤ r → r < 16 * x + 256 → r < m → get_or far r 0 % settled_mark < p
+reach_many far reach m p x e most r w is long all lt a b l =
     let here : get_or reach (r / 16) 0 % settled_mark ≤ most = sixteen_at (λ n. n % settled_mark ≤ most) reach x e (r / 16) is long all (omega arith) (omega arith) in
-    omega (arith, w.bound r)
+    omega (arith, w.bound r l)
 
 -- stretch s is measured again, the rows of the others being as they were
-pub reach_again : (far t reach : List ℕ) (s x e most : ℕ) → ReachBounds far reach → x ≡ 16 * s → e ≡ x + 16 → e ≤ length t → s < length reach → ((r : ℕ) → r < 16 * s → get_or t r 0 ≡ get_or far r 0)
-    → ((r : ℕ) → 16 * s + 16 ≤ r → get_or t r 0 ≡ get_or far r 0) → All (λ n. n % settled_mark ≤ most) (take (e - x) (drop x t)) → most < settled_mark → ReachBounds t (set reach s most)
-reach_again far t reach s x e most w start end long inside below above all small =
+pub reach_again : (far t reach : List ℕ) (m s x e most : ℕ) → ReachBounds far reach m → x ≡ 16 * s → e ≡ x + 16 → e ≤ length t → s < length reach → ((r : ℕ) → r < 16 * s → get_or t r 0 ≡ get_or far r 0)
+    → ((r : ℕ) → 16 * s + 16 ≤ r → get_or t r 0 ≡ get_or far r 0) → All (λ n. n % settled_mark ≤ most) (take (e - x) (drop x t)) → most < settled_mark → ReachBounds t (set reach s most) m
+reach_again far t reach m s x e most w start end long inside below above all small =
     record { bound = bound }
   where
     near : (r : ℕ) → r / 16 ≡ s → get_or t r 0 % settled_mark ≤ most
     near r q = sixteen_at (λ n. n % settled_mark ≤ most) t x e r end long all (omega arith) (omega arith)
 
-    away : (r : ℕ) → (r / 16 ≡ s → ⊥) → get_or t r 0 % settled_mark ≤ get_or reach (r / 16) 0 % settled_mark
-    away r ne =
+    away : (r : ℕ) → r < m → (r / 16 ≡ s → ⊥) → get_or t r 0 % settled_mark ≤ get_or reach (r / 16) 0 % settled_mark
+    away r l ne =
         let same : get_or t r 0 ≡ get_or far r 0 = by_place (get_or t r 0 ≡ get_or far r 0) (16 * s) r (below r) (λ c. above r (omega arith)) in
-        rw same (w.bound r)
+        rw same (w.bound r l)
 
-    bound : (r : ℕ) → get_or t r 0 % settled_mark ≤ get_or (set reach s most) (r / 16) 0 % settled_mark
-    bound r = go (ℕ_discrete (r / 16) s)
+    bound : (r : ℕ) → r < m → get_or t r 0 % settled_mark ≤ get_or (set reach s most) (r / 16) 0 % settled_mark
+    bound r l = go (ℕ_discrete (r / 16) s)
       where
         go : Dec (r / 16 ≡ s) → get_or t r 0 % settled_mark ≤ get_or (set reach s most) (r / 16) 0 % settled_mark
         go (yes e) = rw (e, get_or-set_same reach s most 0 inside) (omega (arith, near r e))
-        go (no ne) = rw (get_or-set_other reach s (r / 16) most 0 ne) (away r ne)
+        go (no ne) = rw (get_or-set_other reach s (r / 16) most 0 ne) (away r l ne)
 
 -- row r alone has changed: its stretch reaches that far now
-pub reach_raised : (far reach : List ℕ) (r n : ℕ) → r / 16 < length reach → ReachBoundsBut far reach r n → ReachBounds far (set reach (r / 16) (max (get_or reach (r / 16) 0 % settled_mark) n))
-reach_raised far reach r n inside w = record { bound = λ q. go q (ℕ_discrete q r) (ℕ_discrete (q / 16) (r / 16)) }
+pub reach_raised : (far reach : List ℕ) (m r n : ℕ) → r / 16 < length reach → ReachBoundsBut far reach m r n → ReachBounds far (set reach (r / 16) (max (get_or reach (r / 16) 0 % settled_mark) n)) m
+reach_raised far reach m r n inside w = record { bound = λ q l. go q l (ℕ_discrete q r) (ℕ_discrete (q / 16) (r / 16)) }
   where
     here : get_or (set reach (r / 16) (max (get_or reach (r / 16) 0 % settled_mark) n)) (r / 16) 0 ≡ max (get_or reach (r / 16) 0 % settled_mark) n
     here = get_or-set_same reach (r / 16) (max (get_or reach (r / 16) 0 % settled_mark) n) 0 inside
@@ -88,30 +88,26 @@ reach_raised far reach r n inside w = record { bound = λ q. go q (ℕ_discrete 
     small : max (get_or reach (r / 16) 0 % settled_mark) n % settled_mark ≡ max (get_or reach (r / 16) 0 % settled_mark) n
     small = omega (arith, w.small)
 
-    go : (q : ℕ) → Dec (q ≡ r) → Dec (q / 16 ≡ r / 16) → get_or far q 0 % settled_mark ≤ get_or (set reach (r / 16) (max (get_or reach (r / 16) 0 % settled_mark) n)) (q / 16) 0 % settled_mark
-    go q (yes e) d = rw (e, here, small) (omega (arith, w.near))
-    go q (no ne) (yes e) =
-        let before : get_or far q 0 % settled_mark ≤ get_or reach (r / 16) 0 % settled_mark = rw e at (w.others q ne) in
+    go : (q : ℕ) → q < m → Dec (q ≡ r) → Dec (q / 16 ≡ r / 16) → get_or far q 0 % settled_mark ≤ get_or (set reach (r / 16) (max (get_or reach (r / 16) 0 % settled_mark) n)) (q / 16) 0 % settled_mark
+    go q l (yes e) d = rw (e, here, small) (omega (arith, w.near))
+    go q l (no ne) (yes e) =
+        let before : get_or far q 0 % settled_mark ≤ get_or reach (r / 16) 0 % settled_mark = rw e at (w.others q l ne) in
         rw (e, here, small) (omega arith)
-    go q (no ne) (no nd) = rw (get_or-set_other reach (r / 16) (q / 16) (max (get_or reach (r / 16) 0 % settled_mark) n) 0 nd) (w.others q ne)
+    go q l (no ne) (no nd) = rw (get_or-set_other reach (r / 16) (q / 16) (max (get_or reach (r / 16) 0 % settled_mark) n) 0 nd) (w.others q l ne)
 
 -- row r alone is changed, to the number k
-pub reach_but : (far reach : List ℕ) (r k n : ℕ) → ReachBounds far reach → r < length far → n < settled_mark → k % settled_mark ≤ n → ReachBoundsBut (set far r k) reach r n
-reach_but far reach r k n w room small near =
+pub reach_but : (far reach : List ℕ) (m r k n : ℕ) → ReachBounds far reach m → r < m → r < length far → n < settled_mark → k % settled_mark ≤ n → ReachBoundsBut (set far r k) reach m r n
+reach_but far reach m r k n w lt room small near =
     record {
+      inside = lt;
       small = small;
       near = rw (get_or-set_same far r k 0 room) near;
-      others = λ q ne. rw (get_or-set_other far r q k 0 ne) (w.bound q);
+      others = λ q l ne. rw (get_or-set_other far r q k 0 ne) (w.bound q l);
     }
 
--- at the start, where the rows behind those of the gates have the number 0
-pub reach_start : (m n : ℕ) (far reach : List ℕ) → m ≤ 16 * n → n ≤ 500 → ((r : ℕ) → r < m → get_or far r 0 ≡ r + 1) → ((r : ℕ) → m ≤ r → get_or far r 0 ≡ 0)
-    → ((s : ℕ) → s < n → get_or reach s 0 ≡ 16 * s + 16) → ReachBounds far reach
-reach_start m n far reach le most rows rest bounds =
-    record {
-      bound = λ r. by_place (get_or far r 0 % settled_mark ≤ get_or reach (r / 16) 0 % settled_mark) m r
-          (λ l. rw (rows r l, bounds (r / 16) (omega arith)) (omega arith)) (λ l. rw (rest r l) (omega arith));
-    }
+-- at the start
+pub reach_start : (m n : ℕ) (far reach : List ℕ) → m ≤ 16 * n → n ≤ 500 → ((r : ℕ) → r < m → get_or far r 0 ≡ r + 1) → ((s : ℕ) → s < n → get_or reach s 0 ≡ 16 * s + 16) → ReachBounds far reach m
+reach_start m n far reach le most rows bounds = record { bound = λ r l. rw (rows r l, bounds (r / 16) (omega arith)) (omega arith) }
 
 -- ---- no row before x has a pair
 

@@ -35,7 +35,7 @@ pub record LookFits {R S : ℕ} (buffer : Buffer) (memory : Memory R S) (change 
   pub fit : ChangeFits buffer change
   pub room : RoomFor R S buffer.count
   pub ahead : RowsAhead (held buffer) memory.far change x
-  pub bounds : ReachBounds memory.far memory.reach
+  pub bounds : ReachBounds memory.far memory.reach (length (held buffer))
   pub marked : StretchesMarked (held buffer) memory.marks
 
 -- t is s after those of the rows from x to e that stand before the change have looked at it again; from x on, no row before low has a pair
@@ -51,5 +51,5 @@ pub record LookedAgain (gs : List Gate) (change : Change) (s t : List ℕ) (x e 
 -- the same, with what is known of the stretches
 pub record Looked {R S : ℕ} (gs : List Gate) (change : Change) (s t : Memory R S) (x e low : ℕ) : Type 0 where
   pub again : LookedAgain gs change s.far t.far x e low
-  pub bounds : ReachBounds t.far t.reach
+  pub bounds : ReachBounds t.far t.reach (length gs)
   pub marked : StretchesMarked gs t.marks

@@ -24,7 +24,7 @@ pub record MemoryTrue {R S : ℕ} (gs : List Gate) (memory : Memory R S) (m x : 
   pub within : x ≤ m
   pub known : RowsKnown gs memory.far
   pub no_pair : NoPairBefore memory.far x
-  pub bounds : ReachBounds memory.far memory.reach
+  pub bounds : ReachBounds memory.far memory.reach m
   pub marked : StretchesMarked gs memory.marks
 
 -- it is true of any m gates, and of no row is known whether it has a pair

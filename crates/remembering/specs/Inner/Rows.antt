@@ -49,12 +49,13 @@ pub record NextRow (far : List ℕ) (m i r : ℕ) : Type 0 where
   pub no_pair : NoPairBefore far r
   pub unsure : get_or far r 0 < settled_mark
 
--- no row of a stretch of sixteen is clear further than the stretch's number
-pub record ReachBounds (far reach : List ℕ) : Type 0 where
-  pub bound : (r : ℕ) → get_or far r 0 % settled_mark ≤ get_or reach (r / 16) 0 % settled_mark
+-- of the first m rows none in a stretch of sixteen is clear further than the stretch's number
+pub record ReachBounds (far reach : List ℕ) (m : ℕ) : Type 0 where
+  pub bound : (r : ℕ) → r < m → get_or far r 0 % settled_mark ≤ get_or reach (r / 16) 0 % settled_mark
 
 -- the same of all rows but r, which is clear up to n at most
-pub record ReachBoundsBut (far reach : List ℕ) (r n : ℕ) : Type 0 where
+pub record ReachBoundsBut (far reach : List ℕ) (m r n : ℕ) : Type 0 where
+  pub inside : r < m
   pub small : n < settled_mark
   pub near : get_or far r 0 % settled_mark ≤ n
-  pub others : (q : ℕ) → (q ≡ r → ⊥) → get_or far q 0 % settled_mark ≤ get_or reach (q / 16) 0 % settled_mark
+  pub others : (q : ℕ) → q < m → (q ≡ r → ⊥) → get_or far q 0 % settled_mark ≤ get_or reach (q / 16) 0 % settled_mark

@@ -9,6 +9,6 @@ returns g c =
     let d = c.look_from-low.ensures in
     record {
       again = d;
-      bounds = reach_again _ _ _ _ _ _ _ c.requires.bounds refl refl (omega (arith, c.look_from-low.auto.far, c.requires.ahead.room, c.requires.ahead.begun, c.requires.fit.inside)) (search rules) d.below d.above c.furthest.ensures.bound c.furthest.ensures.small;
+      bounds = reach_again _ _ _ _ _ _ _ _ c.requires.bounds refl refl (omega (arith, c.look_from-low.auto.far, c.requires.ahead.room, c.requires.ahead.begun, c.requires.fit.inside)) (search rules) d.below d.above c.furthest.ensures.bound c.furthest.ensures.small;
       marked = c.stretch_stays.ensures.stretches_marked;
     }

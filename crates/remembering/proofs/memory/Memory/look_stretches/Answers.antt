@@ -8,9 +8,10 @@ use Rattle.remembering.proofs.memory.Memory.look_stretches.Goals as goal
 
 pub returns-then-furthest-change : goal.returns-then-furthest-change
 returns-then-furthest-change g c =
+    let inside = gates_inside c.args.buffer.now.bytes.now c.args.buffer.now.count c.args.change.place c.requires.fit.inside in
     record {
-      again = again_none _ _ _ _ _ (gates_inside _ _ _ c.requires.fit.inside) (omega (arith, c.args.buffer.now.few, c.requires.fit.inside))
-          (λ r a b l. reach_many _ _ _ _ _ _ r c.requires.bounds refl (search rules) c.furthest.ensures.bound c.if-furthest-change.true a b) c.requires.ahead;
+      again = again_none _ _ _ _ _ inside (omega (arith, c.args.buffer.now.few, c.requires.fit.inside))
+          (λ r a b l. reach_many _ _ _ _ _ _ _ r c.requires.bounds refl (search rules) c.furthest.ensures.bound c.if-furthest-change.true a b (omega (arith, inside))) c.requires.ahead;
       bounds = c.requires.bounds;
       marked = c.requires.marked;
     }

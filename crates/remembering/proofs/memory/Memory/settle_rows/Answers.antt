@@ -3,7 +3,7 @@
 use Rattle.std.proofs.Common.{ℕ, ◌+◌, ◌%◌, ◌<◌, ◌≤◌, Bool, true, false, cond, length, refl, ◌∙◌, arith, length-set}
 use Rattle.remembering.specs.Inner.Buffers.{is_gap}
 use Rattle.remembering.specs.Inner.LentBuffers.{held}
-use Rattle.remembering.specs.Inner.Rows.{settled_mark}
+use Rattle.remembering.specs.Inner.Rows.{settled_mark, ReachBounds}
 use Rattle.remembering.proofs.Buffers.{gates_inside}
 use Rattle.remembering.proofs.Looks.{again_end}
 use Rattle.remembering.proofs.Reaches.{reach_but, reach_raised, no_pair_set}
@@ -21,6 +21,7 @@ returns g c =
     let few : p < 8000 = omega (arith, c.args.buffer.now.few, c.requires.0.inside) in
     let inside = gates_inside c.args.buffer.now.bytes.now c.args.buffer.now.count p c.requires.0.inside in
     let early : c.loop-x.low ≤ p = omega (arith, w.again.early, c.requires.0.early) in
+    let bounds : ReachBounds c.loop-x.self.far c.loop-x.self.reach c.args.buffer.now.count = rw c.requires.1.count at w.bounds in
     let room : p < length c.loop-x.self.far = omega (arith, w.again.len, c.requires.1.known.room, inside) in (
       w.again.early,
       record {
@@ -30,7 +31,7 @@ returns g c =
         known = again_end _ _ _ _ _ _ _ c.requires.1.known inside few (omega arith) w.again c.own_row.ensures;
         no_pair = no_pair_set c.loop-x.self.far p c.own_row.result c.loop-x.low room (λ l. absurd (omega (arith, early))) (λ r ne l. w.again.settled r (omega arith) l);
         bounds = rw c.raise_reach.ensures
-            (reach_raised _ _ _ _ (omega (arith, c.requires.1.room.reach_room, c.requires.0.inside)) (reach_but _ _ _ _ _ w.bounds room (omega arith) (rw c.own_row.ensures (own_near (is_gap c.args.change.gate) p few))));
+            (reach_raised _ _ _ _ _ (omega (arith, c.requires.1.room.reach_room, c.requires.0.inside)) (reach_but _ _ _ _ _ _ bounds c.requires.0.inside room (omega arith) (rw c.own_row.ensures (own_near (is_gap c.args.change.gate) p few))));
         marked = marked_set _ _ _ _ _ inside refl w.marked;
       },
     )
