@@ -51,7 +51,7 @@ impl<const R: usize, const S: usize> Memory<R, S> {
         }
     }
 
-    // The first row from i on that may have a pair: row i itself, or one behind settled rows, which are passed sixteen at a time.
+    // The first row from i on that may have a pair. Row i is asked alone, since most often it is the one; settled rows are then passed sixteen at a time.
     pub fn next_row(&self, m: usize, i: usize) -> Option<usize>
         requires { (i ≤ m) × (m + 16 ≤ R) × NoPairBefore self.now.far i }
         ensures { MatchOption result (NoPairBefore self.now.far m) (λ r. NextRow self.now.far m i r) }

@@ -14,7 +14,7 @@ pub fn furthest(numbers: &[u16]) -> u16
     numbers.iter().map(|n| *n % SETTLED).max().unwrap_or(0)
 }
 
-// None of these is less than this.
+// None of these is less than this. All are looked at, whatever the first is: a search that may end early is no vector loop.
 fn smallest(numbers: &[u16]) -> u16
     ensures { All (λ n. result ≤ n) numbers.now }
 {

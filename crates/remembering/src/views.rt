@@ -25,6 +25,7 @@ impl Sets {
     }
 }
 
+// Every type, or every kind.
 pub const ALL: u64 = 0xffff_ffff_ffff_ffff;
 
 // Of a stretch of which nothing is known: every gate meets it. A value, since an Option would take half as much memory again, and memory is fixed.

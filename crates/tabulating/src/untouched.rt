@@ -32,7 +32,7 @@ fn lay_input(planes: &mut Planes, p: u16)
 }
 
 // The planes of so many inputs, whatever they held before: the inputs join one after the other. A control that is none is content with all: its planes have
-// every bit from the start.
+// every bit from the start. They are lent, since to hand them out copies them.
 pub fn lay_inputs(planes: &mut Planes, count: u16)
     requires { count ≤ 729 }
     ensures { Shows count planes.new (λ p. p) }
