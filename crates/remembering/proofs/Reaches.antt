@@ -78,22 +78,33 @@ reach_again far t reach m s x e most w start end long inside below above all sma
         go (yes e) = rw (e, get_or-set_same reach s most 0 inside) (omega (arith, near r e))
         go (no ne) = rw (get_or-set_other reach s (r / 16) most 0 ne) (away r l ne)
 
--- row r alone has changed: its stretch reaches that far now
-pub reach_raised : (far reach : List ℕ) (m r n : ℕ) → r / 16 < length reach → ReachBoundsBut far reach m r n → ReachBounds far (set reach (r / 16) (max (get_or reach (r / 16) 0 % settled_mark) n)) m
-reach_raised far reach m r n inside w = record { bound = λ q l. go q l (ℕ_discrete q r) (ℕ_discrete (q / 16) (r / 16)) }
+-- the stretch of row r reaches up to n now, and the rows but r are within the old bounds
+raised : (far reach : List ℕ) (m r n : ℕ) → r / 16 < length reach → n < settled_mark → get_or far r 0 % settled_mark ≤ n
+    → ((q : ℕ) → q < m → (q ≡ r → ⊥) → get_or far q 0 % settled_mark ≤ get_or reach (q / 16) 0 % settled_mark) → ReachBounds far (set reach (r / 16) (max (get_or reach (r / 16) 0 % settled_mark) n)) m
+raised far reach m r n inside low near others = record { bound = λ q l. go q l (ℕ_discrete q r) (ℕ_discrete (q / 16) (r / 16)) }
   where
     here : get_or (set reach (r / 16) (max (get_or reach (r / 16) 0 % settled_mark) n)) (r / 16) 0 ≡ max (get_or reach (r / 16) 0 % settled_mark) n
     here = get_or-set_same reach (r / 16) (max (get_or reach (r / 16) 0 % settled_mark) n) 0 inside
 
     small : max (get_or reach (r / 16) 0 % settled_mark) n % settled_mark ≡ max (get_or reach (r / 16) 0 % settled_mark) n
-    small = omega (arith, w.small)
+    small = omega arith
 
     go : (q : ℕ) → q < m → Dec (q ≡ r) → Dec (q / 16 ≡ r / 16) → get_or far q 0 % settled_mark ≤ get_or (set reach (r / 16) (max (get_or reach (r / 16) 0 % settled_mark) n)) (q / 16) 0 % settled_mark
-    go q l (yes e) d = rw (e, here, small) (omega (arith, w.near))
+    go q l (yes e) d = rw (e, here, small) (omega (arith, near))
     go q l (no ne) (yes e) =
-        let before : get_or far q 0 % settled_mark ≤ get_or reach (r / 16) 0 % settled_mark = rw e at (w.others q l ne) in
+        let before : get_or far q 0 % settled_mark ≤ get_or reach (r / 16) 0 % settled_mark = rw e at (others q l ne) in
         rw (e, here, small) (omega arith)
-    go q l (no ne) (no nd) = rw (get_or-set_other reach (r / 16) (q / 16) (max (get_or reach (r / 16) 0 % settled_mark) n) 0 nd) (w.others q l ne)
+    go q l (no ne) (no nd) = rw (get_or-set_other reach (r / 16) (q / 16) (max (get_or reach (r / 16) 0 % settled_mark) n) 0 nd) (others q l ne)
+
+-- row r alone has changed: its stretch reaches that far now
+pub reach_raised : (far reach : List ℕ) (m r n : ℕ) → r / 16 < length reach → ReachBoundsBut far reach m r n → ReachBounds far (set reach (r / 16) (max (get_or reach (r / 16) 0 % settled_mark) n)) m
+reach_raised far reach m r n inside w = raised far reach m r n inside w.small w.near w.others
+
+-- row r alone gets the number k, and its stretch reaches up to n now: of as many rows as were within their bounds all are
+pub reach_set : (far reach : List ℕ) (m r k n : ℕ) → ReachBounds far reach m → r < length far → r / 16 < length reach → n < settled_mark → k % settled_mark ≤ n
+    → ReachBounds (set far r k) (set reach (r / 16) (max (get_or reach (r / 16) 0 % settled_mark) n)) m
+reach_set far reach m r k n w room inside small near =
+    raised (set far r k) reach m r n inside small (rw (get_or-set_same far r k 0 room) near) (λ q l ne. rw (get_or-set_other far r q k 0 ne) (w.bound q l))
 
 -- row r alone is changed, to the number k
 pub reach_but : (far reach : List ℕ) (m r k n : ℕ) → ReachBounds far reach m → r < m → r < length far → n < settled_mark → k % settled_mark ≤ n → ReachBoundsBut (set far r k) reach m r n
@@ -108,6 +119,15 @@ reach_but far reach m r k n w lt room small near =
 -- at the start
 pub reach_start : (m n : ℕ) (far reach : List ℕ) → m ≤ 16 * n → n ≤ 500 → ((r : ℕ) → r < m → get_or far r 0 ≡ r + 1) → ((s : ℕ) → s < n → get_or reach s 0 ≡ 16 * s + 16) → ReachBounds far reach m
 reach_start m n far reach le most rows bounds = record { bound = λ r l. rw (rows r l, bounds (r / 16) (omega arith)) (omega arith) }
+
+-- the same of any number of rows, where those behind the gates' have the number 0
+pub reach_begun : (m n k : ℕ) (far reach : List ℕ) → m ≤ 16 * n → n ≤ 500 → ((r : ℕ) → r < m → get_or far r 0 ≡ r + 1) → ((r : ℕ) → m ≤ r → get_or far r 0 ≡ 0)
+    → ((s : ℕ) → s < n → get_or reach s 0 ≡ 16 * s + 16) → ReachBounds far reach k
+reach_begun m n k far reach le most rows rest bounds =
+    record {
+      bound = λ r l. by_place (get_or far r 0 % settled_mark ≤ get_or reach (r / 16) 0 % settled_mark) m r
+          ((reach_start m n far reach le most rows bounds).bound r) (λ a. rw (rest r a) (omega arith));
+    }
 
 -- ---- no row before x has a pair
 

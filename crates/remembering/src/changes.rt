@@ -4,7 +4,7 @@ ghost use Rattle.remembering.specs.Inner.Buffers.{is_gap, GateOrGap};
 ghost use Rattle.remembering.specs.Inner.LentBuffers.{held};
 ghost use Rattle.remembering.specs.Inner.Rows.{settled_mark, RowKnown};
 ghost use Rattle.remembering.specs.Inner.Views.{SeenAs, StretchesMarked};
-ghost use Rattle.remembering.specs.Inner.Memories.{MemoryTrue};
+ghost use Rattle.remembering.specs.Inner.Memories.{MemoryTrue, ReachKept};
 ghost use Rattle.remembering.specs.Inner.GateChanges.{change_of, ChangeFits, RowsAhead, LookFits, LookedAgain, Looked};
 
 use super::buffer::Buffer;
@@ -138,7 +138,9 @@ impl<const R: usize, const S: usize> Memory<R, S> {
     // What is remembered becomes true of the buffer as the change will leave it. Answers the lowest row that may have a pair then.
     pub fn settle_rows(&mut self, buffer: &Buffer, change: Change) -> usize
         requires { ChangeFits buffer.now change × MemoryTrue (held buffer.now) self.old buffer.now.count change.from }
-        ensures { (result ≤ change.from) × MemoryTrue (set (held buffer.now) change.place change.gate) self.new buffer.now.count result }
+        ensures settled { (result ≤ change.from)
+            × MemoryTrue (set (held buffer.now) change.place change.gate) self.new buffer.now.count result }
+        ensures reach_kept { ReachKept self.old self.new }
     {
         let p = change.place;
         let mut low = change.from;

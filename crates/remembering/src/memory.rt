@@ -5,9 +5,9 @@ ghost use Rattle.gates.specs.declared.Gate.{Gate};
 ghost use Rattle.rules.specs.Tidying.{gate};
 ghost use Rattle.remembering.specs.Inner.Buffers.{is_gap};
 ghost use Rattle.remembering.specs.Inner.LentBuffers.{held};
-ghost use Rattle.remembering.specs.Inner.Rows.{Clear, Stops, NoPairBefore, NextRow};
+ghost use Rattle.remembering.specs.Inner.Rows.{Clear, Stops, NoPairBefore, NextRow, ReachBounds};
 ghost use Rattle.remembering.specs.Inner.Views.{StretchesMarked};
-ghost use Rattle.remembering.specs.Inner.Memories.{blank, RoomFor, MemoryTrue, MemoryFresh};
+ghost use Rattle.remembering.specs.Inner.Memories.{blank, RoomFor, MemoryTrue, MemoryFresh, ReachKept};
 
 use super::buffer::Buffer;
 use super::rows::SETTLED;
@@ -39,6 +39,7 @@ impl<const R: usize, const S: usize> Memory<R, S> {
     pub fn start(&mut self, m: usize)
         requires { (m ≤ 8000) × (m ≤ R) × (m ≤ 16 * S) }
         ensures fresh { self.old ≡ blank R S → RoomFor R S m → MemoryFresh self.new m }
+        ensures bounded { self.old ≡ blank R S → (k : ℕ) → ReachBounds self.new.far self.new.reach k }
         ensures numbers { (self.new.far ≡ span (λ r. r + 1) 0 m ++ drop m self.old.far)
             × (self.new.reach ≡ span (λ s. 16 * s + 16) 0 ((m + 15) / 16) ++ drop ((m + 15) / 16) self.old.reach)
             × (self.new.marks ≡ self.old.marks) }
@@ -72,8 +73,9 @@ impl<const R: usize, const S: usize> Memory<R, S> {
     // Row i, which is clear up to place j, has no pair.
     pub fn stop_row(&mut self, i: usize, j: usize)
         requires { (i < R) × (i < 16 * S) × (j ≤ 8000) }
-        ensures { (gs : List Gate) (m : ℕ) → MemoryTrue gs self.old m i → i < m → is_gap (gate gs i) ≡ false
+        ensures stopped { (gs : List Gate) (m : ℕ) → MemoryTrue gs self.old m i → i < m → is_gap (gate gs i) ≡ false
             → Clear gs i j → Stops gs i j → MemoryTrue gs self.new m (i + 1) }
+        ensures reach_kept { ReachKept self.old self.new }
     {
         self.far[i] = j as u16 + SETTLED;
         super::rows::raise_reach(&mut self.reach, i, j as u16);

@@ -16,7 +16,7 @@ fn size_gate(names: &Names, w: u64) -> usize
     ensures { result ≡ length (gate_text (name_in names.now) (gate_of w)) }
 {
     let name = names[(w % 256) as usize];
-    laying::count_letters(name) + 4 + 5 * (words::mark_controls(w) % 255) as usize
+    laying::size_name(name) + 4 + 5 * (words::mark_controls(w) % 255) as usize
 }
 
 // The bytes of the lines of all gates.

@@ -7,7 +7,7 @@ ghost use Rattle.gates.specs.Inner.Words.{bytes_in, gate_of, GateWord};
 ghost use Rattle.texts.specs.Texts.{joined};
 ghost use Rattle.texts.specs.GateTexts.{line_text, control_text, gate_text};
 ghost use Rattle.texts.specs.Inner.StoredTexts.{Appended};
-ghost use Rattle.texts.specs.Inner.Names.{name_of, name_in};
+ghost use Rattle.texts.specs.Inner.Names.{name_of, spaced, name_in};
 
 // The name of an operator: two bytes, and how many of them, from the first on, are its letters; a number above 2 counts as 2.
 pub type Name = ([u8; 2], u8);
@@ -16,10 +16,18 @@ pub type Name = ([u8; 2], u8);
 pub type Names = [Name; 6];
 
 // How many letters a name has. A slice for each name would need no number, but copying so few bytes takes a call.
-pub fn count_letters(name: Name) -> usize
+pub fn size_name(name: Name) -> usize
     ensures { (result ≡ length (name_of name)) × (result ≤ 2) }
 {
     usize::from(name.1.min(2))
+}
+
+// The same of a name of two bytes where a space is no letter.
+pub fn count_letters(name: [u8; 2]) -> usize
+    ensures { (result ≡ length (name_of (spaced name))) × (result ≤ 2) }
+{
+    let letters = u8::from(name[0] != b' ') + u8::from(name[1] != b' ');
+    size_name((name, letters))
 }
 
 // The 8 bytes of a word, its lowest byte first.
@@ -38,7 +46,7 @@ fn put_operator(names: &Names, w: u64, line: &mut [u8; 48]) -> usize
     let name = names[(w % 256) as usize];
     line[0] = name.0[0];
     line[1] = name.0[1];
-    let named = count_letters(name);
+    let named = size_name(name);
     put_word(0x0030_7820 + 0x0001_0000 * (w / 256 % 256), line, named);
     named + 3
 }
@@ -70,4 +78,16 @@ pub fn put_gate(names: &Names, w: u64, line: &mut [u8; 48]) -> usize
     let done = put_controls(w, line, aimed);
     line[done] = b'\n';
     done + 1
+}
+
+#[cfg(test)]
+mod tests {
+    use super::*;
+
+    #[test]
+    fn spaces_are_no_letters(rt: HostRuntime) {
+        for (name, letters) in [(*b"C1", 2), (*b"N ", 1), (*b" A", 1), (*b"  ", 0)] {
+            assert_eq!(rt; count_letters(name), letters);
+        }
+    }
 }

@@ -27,6 +27,10 @@ pub record MemoryTrue {R S : ℕ} (gs : List Gate) (memory : Memory R S) (m x : 
   pub bounds : ReachBounds memory.far memory.reach m
   pub marked : StretchesMarked gs memory.marks
 
+-- of as many rows as the reach bounds in s, it does in t: rows behind the last gate too, where it bounded them
+abbrev pub ReachKept : {R S : ℕ} → Memory R S → Memory R S → Type 0
+ReachKept s t = (m : ℕ) → ReachBounds s.far s.reach m → ReachBounds t.far t.reach m
+
 -- it is true of any m gates, and of no row is known whether it has a pair
 abbrev pub MemoryFresh : {R S : ℕ} → Memory R S → ℕ → Type 0
 MemoryFresh memory m = (gs : List Gate) → length gs ≡ m → Each (λ g. is_gap g ≡ false) gs → MemoryTrue gs memory m 0

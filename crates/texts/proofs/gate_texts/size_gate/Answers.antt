@@ -5,4 +5,4 @@ use Rattle.texts.proofs.gate_texts.size_gate.Goals as goal
 
 pub returns : goal.returns
 returns c =
-    rw (c.count_letters.ensures.0, ← name_is _ c.told-names _ c.requires.op_high, c.mark_controls.ensures) (word_long _ _ c.requires)
+    rw (c.size_name.ensures.0, ← name_is _ c.told-names _ c.requires.op_high, c.mark_controls.ensures) (word_long _ _ c.requires)

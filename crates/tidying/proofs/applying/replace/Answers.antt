@@ -3,5 +3,5 @@ use Rattle.tidying.proofs.applying.replace.Goals as goal
 
 pub returns-clause-remembers : goal.returns-clause-remembers
 returns-clause-remembers g c =
-    let d = c.settle_rows-low.ensures in
+    let d = c.settle_rows-low.ensures.settled in
     (rw (c.set.ensures.gates_after, c.set.ensures.same_records.1) d.1, d.0)

@@ -32,7 +32,7 @@ rows-preserved g c =
           let row_gate : IsGate 6 (gate gs i) = (holds_gate _ _ c.args.buffer.now.holds _ (gates_inside _ _ _ next.within)).real real in
           record { unfit = λ l. shut_unfit _ _ row_gate (holds_gate _ _ c.args.buffer.now.holds _ l) shut; shut = λ l. shut }
     ] in
-    c.stop_row.ensures _ _ c.loop-j.invariant.0 next.within real c.loop-j.invariant.1 stops
+    c.stop_row.ensures.stopped _ _ c.loop-j.invariant.0 next.within real c.loop-j.invariant.1 stops
 
 pub loop-j-preserved : goal.loop-j-preserved
 loop-j-preserved g c =

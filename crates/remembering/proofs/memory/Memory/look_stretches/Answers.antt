@@ -2,19 +2,17 @@
 -- nothing.
 use Rattle.std.proofs.Common.{◌≡◌, ◌+◌, ◌*◌, refl, rules, arith}
 use Rattle.remembering.proofs.Buffers.{gates_inside}
-use Rattle.remembering.proofs.Looks.{again_none, looking_next}
+use Rattle.remembering.proofs.Looks.{again_none, looked_by, looking_next}
 use Rattle.remembering.proofs.Reaches.{reach_many}
 use Rattle.remembering.proofs.memory.Memory.look_stretches.Goals as goal
 
 pub returns-then-furthest-change : goal.returns-then-furthest-change
 returns-then-furthest-change g c =
     let inside = gates_inside c.args.buffer.now.bytes.now c.args.buffer.now.count c.args.change.place c.requires.fit.inside in
-    record {
-      again = again_none _ _ _ _ _ inside (omega (arith, c.args.buffer.now.few, c.requires.fit.inside))
-          (λ r a b l. reach_many _ _ _ _ _ _ _ r c.requires.bounds refl (search rules) c.furthest.ensures.bound c.if-furthest-change.true a b (omega (arith, inside))) c.requires.ahead;
-      bounds = c.requires.bounds;
-      marked = c.requires.marked;
-    }
+    looked_by _ _ _ _ c.requires _ _ _
+    (again_none _ _ _ _ _ inside (omega (arith, c.args.buffer.now.few, c.requires.fit.inside))
+    (λ r a b l. reach_many _ _ _ _ _ _ _ r c.requires.bounds refl (search rules) c.furthest.ensures.bound c.if-furthest-change.true a b (omega (arith, inside))) c.requires.ahead)
+    (λ m w. w) c.requires.marked
 
 pub loop-s-preserved : goal.loop-s-preserved
 loop-s-preserved g c =

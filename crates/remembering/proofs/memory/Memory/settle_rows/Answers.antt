@@ -3,10 +3,10 @@
 use Rattle.std.proofs.Common.{ℕ, ◌+◌, ◌%◌, ◌<◌, ◌≤◌, Bool, true, false, cond, length, refl, ◌∙◌, arith, length-set}
 use Rattle.remembering.specs.Inner.Buffers.{is_gap}
 use Rattle.remembering.specs.Inner.LentBuffers.{held}
-use Rattle.remembering.specs.Inner.Rows.{settled_mark, ReachBounds}
+use Rattle.remembering.specs.Inner.Rows.{settled_mark}
 use Rattle.remembering.proofs.Buffers.{gates_inside}
 use Rattle.remembering.proofs.Looks.{again_end}
-use Rattle.remembering.proofs.Reaches.{reach_but, reach_raised, no_pair_set}
+use Rattle.remembering.proofs.Reaches.{reach_set, no_pair_set}
 use Rattle.remembering.proofs.Stretches.{marked_set}
 use Rattle.remembering.proofs.memory.Memory.settle_rows.Goals as goal
 
@@ -14,14 +14,22 @@ own_near : (b : Bool) (p : ℕ) → p < 8000 → cond b settled_mark (p + 1) % s
 own_near true p lt = omega arith
 own_near false p lt = omega arith
 
-pub returns : goal.returns
-returns g c =
+pub returns-clause-reach_kept : goal.returns-clause-reach_kept
+returns-clause-reach_kept g c = λ m b.
+    let p = c.args.change.place in
+    let w = c.loop-x.invariant in
+    let few : p < 8000 = omega (arith, c.args.buffer.now.few, c.requires.0.inside) in
+    let room : p < length c.loop-x.self.far = omega (arith, w.again.len, c.requires.1.known.room, gates_inside c.args.buffer.now.bytes.now c.args.buffer.now.count p c.requires.0.inside) in
+    rw c.raise_reach.ensures
+    (reach_set _ _ _ _ _ _ (w.kept m b) room (omega (arith, c.requires.1.room.reach_room, c.requires.0.inside)) (omega arith) (rw c.own_row.ensures (own_near (is_gap c.args.change.gate) p few)))
+
+pub returns-clause-settled : goal.returns-clause-settled
+returns-clause-settled g c =
     let p = c.args.change.place in
     let w = c.loop-x.invariant in
     let few : p < 8000 = omega (arith, c.args.buffer.now.few, c.requires.0.inside) in
     let inside = gates_inside c.args.buffer.now.bytes.now c.args.buffer.now.count p c.requires.0.inside in
     let early : c.loop-x.low ≤ p = omega (arith, w.again.early, c.requires.0.early) in
-    let bounds : ReachBounds c.loop-x.self.far c.loop-x.self.reach c.args.buffer.now.count = rw c.requires.1.count at w.bounds in
     let room : p < length c.loop-x.self.far = omega (arith, w.again.len, c.requires.1.known.room, inside) in (
       w.again.early,
       record {
@@ -30,8 +38,7 @@ returns g c =
         within = omega (arith, early, c.requires.0.inside);
         known = again_end _ _ _ _ _ _ _ c.requires.1.known inside few (omega arith) w.again c.own_row.ensures;
         no_pair = no_pair_set c.loop-x.self.far p c.own_row.result c.loop-x.low room (λ l. absurd (omega (arith, early))) (λ r ne l. w.again.settled r (omega arith) l);
-        bounds = rw c.raise_reach.ensures
-            (reach_raised _ _ _ _ _ (omega (arith, c.requires.1.room.reach_room, c.requires.0.inside)) (reach_but _ _ _ _ _ _ bounds c.requires.0.inside room (omega arith) (rw c.own_row.ensures (own_near (is_gap c.args.change.gate) p few))));
+        bounds = returns-clause-reach_kept g c _ c.requires.1.bounds;
         marked = marked_set _ _ _ _ _ inside refl w.marked;
       },
     )

@@ -1,16 +1,21 @@
 -- `remembering::memory::Memory::start` meets its contract: both lists are filled from their start on, so that each row is clear up to the next; and every
 -- gate meets what is not known. Assumes nothing.
-use Rattle.std.proofs.Common.{◌≡◌, refl, ℕ, ◌+◌, ◌*◌, ◌/◌, ◌<◌, length, get_or, replicate, ap, ◌∙◌, rules, arith}
+use Rattle.std.proofs.Common.{◌≡◌, refl, List, ℕ, zero, suc, ◌+◌, ◌*◌, ◌/◌, ◌<◌, length, get_or, replicate, ap, ◌∙◌, rules, arith}
 use Rattle.std.proofs.Math.ListN.{length-replicate, get_or-replicate}
 use Rattle.ranges.proofs.Fills.{filled, filling_start, filling_length, filling_next}
-use Rattle.ranges.proofs.Changes.{filled_at}
+use Rattle.ranges.proofs.Changes.{filled_at, filled_rest}
 use Rattle.remembering.specs.declared.memory.Memory.{Memory}
 use Rattle.remembering.specs.declared.views.Sets.{Sets}
 use Rattle.remembering.specs.Inner.Views.{all_kinds}
 use Rattle.remembering.proofs.Clearances.{known_start}
-use Rattle.remembering.proofs.Reaches.{reach_start}
+use Rattle.remembering.proofs.Reaches.{reach_begun}
 use Rattle.remembering.proofs.Stretches.{marked_start}
 use Rattle.remembering.proofs.memory.Memory.start.Goals as goal
+
+zeros : (n r : ℕ) → ◌≡◌ {A = ℕ} (get_or (replicate n 0) r 0) 0
+zeros zero r = refl
+zeros (suc n) zero = refl
+zeros (suc n) (suc r) = zeros n r
 
 pub loop-r-init : goal.loop-r-init
 loop-r-init g c = (refl, filling_start _ _)
@@ -39,6 +44,16 @@ returns-clause-numbers g c =
       ap (λ (x : Memory g.row.R g.row.S). x.marks) stretches.0 ∙ ap (λ (x : Memory g.row.R g.row.S). x.marks) rows.0,
     )
 
+pub returns-clause-bounded : goal.returns-clause-bounded
+returns-clause-bounded g c = λ clean k.
+    let m = c.args.m in
+    let numbers = returns-clause-numbers g c in
+    let was = c.args.self.now.far in
+    let blank : was ≡ replicate g.row.R 0 = ap (λ (x : Memory g.row.R g.row.S). x.far) clean in
+    reach_begun m ((m + 15) / 16) k _ _ (omega arith) (omega (arith, c.requires.0)) (λ r l. rw numbers.0 (filled_at (λ r. r + 1) was m r 0 l))
+    (λ r l. rw numbers.0 (filled_rest (λ r. r + 1) was m r 0 l ∙ ap (λ (l : List ℕ). get_or l r 0) blank ∙ zeros g.row.R r))
+    (λ s l. rw numbers.1 (filled_at (λ s. 16 * s + 16) c.args.self.now.reach ((m + 15) / 16) s 0 l))
+
 pub returns-clause-fresh : goal.returns-clause-fresh
 returns-clause-fresh g c = λ clean room gs e real.
     let m = c.args.m in
@@ -57,8 +72,7 @@ returns-clause-fresh g c = λ clean room gs e real.
       within = omega arith;
       known = known_start gs m _ e room.few (rw far_long room.far_room) low real;
       no_pair = λ r l. absurd (omega arith);
-      bounds = reach_start m ((m + 15) / 16) _ _ (omega arith) (omega (arith, room.few)) low
-          (λ s l. rw numbers.1 (filled_at (λ s. 16 * s + 16) c.args.self.now.reach ((m + 15) / 16) s 0 l));
+      bounds = returns-clause-bounded g c clean m;
       marked = marked_start gs _ (rw (marks, long) (omega (arith, room.reach_room)))
           (λ s l. rw marks (ap (λ (x : Sets). x.kinds) (get_or-replicate g.row.S s none (record { types = 0; kinds = 0 }) (rw (marks, long) at l))));
     }

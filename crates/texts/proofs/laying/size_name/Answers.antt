@@ -1,7 +1,7 @@
--- `texts::laying::count_letters` meets its contract: the number beside the bytes, but at most 2. Assumes nothing.
+-- `texts::laying::size_name` meets its contract: the number beside the bytes, but at most 2. Assumes nothing.
 use Rattle.std.proofs.Common.{sym, ◌∙◌}
 use Rattle.texts.proofs.Names.{name_few, name_long}
-use Rattle.texts.proofs.laying.count_letters.Goals as goal
+use Rattle.texts.proofs.laying.size_name.Goals as goal
 
 pub returns : goal.returns
 returns c =
