@@ -21,7 +21,7 @@ returns-clause-reach_kept g c = λ m b.
     let few : p < 8000 = omega (arith, c.args.buffer.now.few, c.requires.0.inside) in
     let room : p < length c.loop-x.self.far = omega (arith, w.again.len, c.requires.1.known.room, gates_inside c.args.buffer.now.bytes.now c.args.buffer.now.count p c.requires.0.inside) in
     rw c.raise_reach.ensures
-    (reach_set _ _ _ _ _ _ (w.kept m b) room (omega (arith, c.requires.1.room.reach_room, c.requires.0.inside)) (omega arith) (rw c.own_row.ensures (own_near (is_gap c.args.change.gate) p few)))
+    (reach_set _ _ _ _ _ _ (w.kept m b) room (omega (arith, c.requires.1.room.reach_room, c.requires.0.inside)) (omega arith) (rw c.own_row.ensures (omega (arith, own_near (is_gap c.args.change.gate) p few))))
 
 pub returns-clause-settled : goal.returns-clause-settled
 returns-clause-settled g c =
