@@ -12,7 +12,7 @@ use Rattle.remembering.specs.Inner.Buffers.{is_gap, GateOrGap}
 use Rattle.remembering.specs.Inner.LentBuffers.{held}
 use Rattle.remembering.specs.Inner.Rows.{Quiet, settled_mark, RowKnown, RowsKnown}
 use Rattle.remembering.specs.Inner.Views.{SeenAs, StretchesMarked}
-use Rattle.remembering.specs.Inner.Memories.{MemoryTrue, ReachKept}
+use Rattle.remembering.specs.Inner.Memories.{MemoryTrue}
 use Rattle.remembering.specs.Inner.GateChanges.{change_of, ChangeFits, RowsAhead, LookFits, LookedAgain, Looked}
 use Rattle.remembering.proofs.Clearances.{row_stays, again_near, row_behind, row_own}
 
@@ -83,18 +83,12 @@ module _ (gs : List Gate) (change : Change) where
 -- ---- the rows and the stretches, in a loop
 
 module _ {R S : ℕ} (b : Buffer) (change : Change) (start : Memory R S) (x : ℕ) (fit : LookFits b start change x) where
-  -- the rows up to y have looked at the change, and the stretches are known as before
-  pub looked_by : (later : Memory R S) (y low : ℕ) → LookedAgain (held b) change start.far later.far x y low → ReachKept start later → StretchesMarked (held b) later.marks
-      → Looked (held b) change start later x y low
-  looked_by later y low again kept marked = record { again = again; bounds = kept (length (held b)) fit.bounds; kept = kept; marked = marked }
-
   module _ (memory : Memory R S) (y low : ℕ) (w : Looked (held b) change start memory x y low) (le : x ≤ y) where
     pub looking_next : (later : Memory R S) (z q l : ℕ) → Looked (held b) change memory later y z q → y ≤ z → l ≤ low → l ≤ q → Looked (held b) change start later x z l
     looking_next later z q l v lz c d =
         record {
           again = again_more (held b) change start.far memory.far later.far x y z low q l le lz c d w.again v.again;
           bounds = v.bounds;
-          kept = λ m b. v.kept m (w.kept m b);
           marked = v.marked;
         }
 

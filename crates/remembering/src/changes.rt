@@ -105,7 +105,8 @@ impl<const R: usize, const S: usize> Memory<R, S> {
     // The rows of stretch s look at the change again, where one of them reaches it.
     fn look_stretch(&mut self, buffer: &Buffer, change: Change, s: usize) -> usize
         requires { LookFits buffer.now self.old change (16 * s) }
-        ensures { Looked (held buffer.now) change self.old self.new (16 * s) (16 * s + 16) result }
+        ensures looked { Looked (held buffer.now) change self.old self.new (16 * s) (16 * s + 16) result }
+        ensures reach_kept { ReachKept self.old self.new }
     {
         if ((self.reach[s] % SETTLED) as usize) < change.place {
             return change.from;
@@ -122,7 +123,8 @@ impl<const R: usize, const S: usize> Memory<R, S> {
     // The same of the sixteen stretches from x on.
     fn look_stretches(&mut self, buffer: &Buffer, change: Change, x: usize) -> usize
         requires { LookFits buffer.now self.old change (16 * x) }
-        ensures { Looked (held buffer.now) change self.old self.new (16 * x) (16 * x + 256) result }
+        ensures looked { Looked (held buffer.now) change self.old self.new (16 * x) (16 * x + 256) result }
+        ensures reach_kept { ReachKept self.old self.new }
     {
         let reach = &self.reach[..];
         if (super::rows::furthest(&reach[x..x + 16]) as usize) < change.place {

@@ -9,7 +9,7 @@ use Rattle.remembering.specs.declared.buffer.Buffer.{Buffer}
 use Rattle.remembering.specs.Inner.Buffers.{GateOrGap}
 use Rattle.remembering.specs.Inner.LentBuffers.{held}
 use Rattle.remembering.specs.Inner.Rows.{settled_mark, RowKnown, ReachBounds}
-use Rattle.remembering.specs.Inner.Memories.{RoomFor, ReachKept}
+use Rattle.remembering.specs.Inner.Memories.{RoomFor}
 use Rattle.remembering.specs.Inner.Views.{SeenAs, StretchesMarked}
 
 -- the change of the gate at a place
@@ -52,5 +52,4 @@ pub record LookedAgain (gs : List Gate) (change : Change) (s t : List ℕ) (x e 
 pub record Looked {R S : ℕ} (gs : List Gate) (change : Change) (s t : Memory R S) (x e low : ℕ) : Type 0 where
   pub again : LookedAgain gs change s.far t.far x e low
   pub bounds : ReachBounds t.far t.reach (length gs)
-  pub kept : ReachKept s t
   pub marked : StretchesMarked gs t.marks
