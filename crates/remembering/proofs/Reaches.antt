@@ -78,7 +78,7 @@ reach_again far t reach m s x e most w start end long inside below above all sma
         go (yes e) = rw (e, get_or-set_same reach s most 0 inside) (omega (arith, near r e))
         go (no ne) = rw (get_or-set_other reach s (r / 16) most 0 ne) (away r l ne)
 
--- the stretch of row r reaches up to n now, and the rows but r are within the old bounds
+-- where row r is clear up to n at most and the other rows are within their bounds, raising its stretch to n bounds them all
 raised : (far reach : List ℕ) (m r n : ℕ) → r / 16 < length reach → n < settled_mark → get_or far r 0 % settled_mark ≤ n
     → ((q : ℕ) → q < m → (q ≡ r → ⊥) → get_or far q 0 % settled_mark ≤ get_or reach (q / 16) 0 % settled_mark) → ReachBounds far (set reach (r / 16) (max (get_or reach (r / 16) 0 % settled_mark) n)) m
 raised far reach m r n inside low near others = record { bound = λ q l. go q l (ℕ_discrete q r) (ℕ_discrete (q / 16) (r / 16)) }
@@ -100,7 +100,7 @@ raised far reach m r n inside low near others = record { bound = λ q l. go q l 
 pub reach_raised : (far reach : List ℕ) (m r n : ℕ) → r / 16 < length reach → ReachBoundsBut far reach m r n → ReachBounds far (set reach (r / 16) (max (get_or reach (r / 16) 0 % settled_mark) n)) m
 reach_raised far reach m r n inside w = raised far reach m r n inside w.small w.near w.others
 
--- row r alone gets the number k, and its stretch reaches up to n now: of as many rows as were within their bounds all are
+-- row r alone gets the number k, and its stretch reaches up to n now: where the first m rows were within their bounds, they are
 pub reach_set : (far reach : List ℕ) (m r k n : ℕ) → ReachBounds far reach m → r < length far → r / 16 < length reach → n < settled_mark → k % settled_mark ≤ n
     → ReachBounds (set far r k) (set reach (r / 16) (max (get_or reach (r / 16) 0 % settled_mark) n)) m
 reach_set far reach m r k n w room inside small near =
@@ -120,7 +120,7 @@ reach_but far reach m r k n w lt room small near =
 pub reach_start : (m n : ℕ) (far reach : List ℕ) → m ≤ 16 * n → n ≤ 500 → ((r : ℕ) → r < m → get_or far r 0 ≡ r + 1) → ((s : ℕ) → s < n → get_or reach s 0 ≡ 16 * s + 16) → ReachBounds far reach m
 reach_start m n far reach le most rows bounds = record { bound = λ r l. rw (rows r l, bounds (r / 16) (omega arith)) (omega arith) }
 
--- the same of any number of rows, where those behind the gates' have the number 0
+-- the same of any number of rows, where those behind the gates' rows have the number 0
 pub reach_begun : (m n k : ℕ) (far reach : List ℕ) → m ≤ 16 * n → n ≤ 500 → ((r : ℕ) → r < m → get_or far r 0 ≡ r + 1) → ((r : ℕ) → m ≤ r → get_or far r 0 ≡ 0)
     → ((s : ℕ) → s < n → get_or reach s 0 ≡ 16 * s + 16) → ReachBounds far reach k
 reach_begun m n k far reach le most rows rest bounds =

@@ -155,3 +155,26 @@ impl<const R: usize, const S: usize> Memory<R, S> {
         low
     }
 }
+
+#[cfg(test)]
+mod tests {
+    use super::*;
+
+    // C1 x0 goes: no row may have a pair then, its own has the gap's number, and its stretch reaches as far as from the start on.
+    #[test]
+    fn row_of_a_gap_is_settled(rt: HostRuntime) {
+        let mut bytes = [1, 0, 3, 3, 3, 3, 3, 3];
+        let buffer = Buffer::new(&mut bytes, 1);
+        let mut memory = Memory::<80, 20>::new();
+        memory.start(1);
+        let gap = Gate {
+            operator: 0,
+            target: 6,
+            controls: 0x0fff,
+        };
+        let low = memory.settle_rows(&buffer, Change::new(0, gap, 0));
+        assert_eq!(rt; low, 0);
+        assert_eq!(rt; memory.far[0], SETTLED);
+        assert_eq!(rt; memory.reach[0], 16);
+    }
+}

@@ -102,3 +102,23 @@ impl<const R: usize, const S: usize> Memory<R, S> {
         16 * (buffer.count / 16)
     }
 }
+
+#[cfg(test)]
+mod tests {
+    use super::*;
+
+    // Of two gates: row 1 stops at place 2, which its stretch reaches from the start on; row 16, of a stretch that has the number 0, raises it.
+    #[test]
+    fn stretches_bound_their_rows(rt: HostRuntime) {
+        let mut memory = Memory::<80, 20>::new();
+        memory.start(2);
+        assert_eq!(rt; memory.far[1], 2);
+        assert_eq!(rt; memory.far[2], 0);
+        assert_eq!(rt; memory.reach[0], 16);
+        memory.stop_row(1, 2);
+        assert_eq!(rt; memory.far[1], SETTLED + 2);
+        assert_eq!(rt; memory.reach[0], 16);
+        memory.stop_row(16, 17);
+        assert_eq!(rt; memory.reach[1], 17);
+    }
+}

@@ -27,7 +27,7 @@ pub record MemoryTrue {R S : ℕ} (gs : List Gate) (memory : Memory R S) (m x : 
   pub bounds : ReachBounds memory.far memory.reach m
   pub marked : StretchesMarked gs memory.marks
 
--- of as many rows as the reach bounds in s, it does in t: rows behind the last gate too, where it bounded them
+-- where the reach bounds the first m rows in s, it does in t, whatever m is: rows behind the last gate too
 abbrev pub ReachKept : {R S : ℕ} → Memory R S → Memory R S → Type 0
 ReachKept s t = (m : ℕ) → ReachBounds s.far s.reach m → ReachBounds t.far t.reach m
 

@@ -1,5 +1,5 @@
--- `remembering::memory::Memory::start` meets its contract: both lists are filled from their start on, so that each row is clear up to the next; and every
--- gate meets what is not known. Assumes nothing.
+-- `remembering::memory::Memory::start` meets its contract: both lists are filled from their start on, so that each row is clear up to the next; those
+-- behind keep the number 0, which every stretch bounds; and every gate meets what is not known. Assumes nothing.
 use Rattle.std.proofs.Common.{◌≡◌, refl, List, ℕ, zero, suc, ◌+◌, ◌*◌, ◌/◌, ◌<◌, length, get_or, replicate, ap, ◌∙◌, rules, arith}
 use Rattle.std.proofs.Math.ListN.{length-replicate, get_or-replicate}
 use Rattle.ranges.proofs.Fills.{filled, filling_start, filling_length, filling_next}
@@ -12,6 +12,7 @@ use Rattle.remembering.proofs.Reaches.{reach_begun}
 use Rattle.remembering.proofs.Stretches.{marked_start}
 use Rattle.remembering.proofs.memory.Memory.start.Goals as goal
 
+-- a blank list has 0 everywhere
 zeros : (n r : ℕ) → ◌≡◌ {A = ℕ} (get_or (replicate n 0) r 0) 0
 zeros zero r = refl
 zeros (suc n) zero = refl
